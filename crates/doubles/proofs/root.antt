@@ -1,0 +1,3 @@
+pub mod DigitLoop
+pub mod Nearest
+pub mod Squares

@@ -1,0 +1,8 @@
+pub mod Arithmetic
+pub mod Floor
+pub mod Root
+pub mod Power
+pub mod Circular
+pub mod Approx
+pub mod Range
+pub mod Norm

@@ -1,0 +1,11 @@
+-- Tests of a double's range. Definitions only.
+use mathlib.Core.Bool.{Bool, _&&_, cond}
+use lib.Ieee.{Float, lt, le}
+
+-- from a to b
+abbrev pub between : Float → Float → Float → Bool
+between a b x = le a x && le x b
+
+-- Rust's `clamp`
+unfoldable pub clampTo : Float → Float → Float → Float
+clampTo a b x = cond (lt x a) a (cond (lt b x) b x)

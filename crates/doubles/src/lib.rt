@@ -1,0 +1,22 @@
+// Doubles: floor, square root, powers of two, sine, cosine and the two approximations, each with an
+// equation for its result on every double. The upper crates use only these promises and the laws of
+// proofs/Laws.antt.
+mod approx;
+mod circular;
+mod power;
+mod range;
+mod root;
+mod whole;
+
+pub use approx::approx_exp2;
+pub use approx::approx_log2;
+pub use circular::cosine;
+pub use circular::sine;
+pub use power::floor_log2;
+pub use power::pow2;
+pub use power::pow2_i32;
+pub use range::clamp;
+pub use range::is_between;
+pub use range::is_finite;
+pub use root::sqrt;
+pub use whole::floor;
