@@ -1,6 +1,6 @@
 -- The operations of IEEE 754-2019 on doubles, each rounded once, to the nearest and at a tie to the even one; and doubles by their decimal literals. Definitions only.
 use Prim.Native.Nat.{ℕ, _^_}
-use mathlib.Core.Bool.{false}
+use mathlib.Core.Bool.{true, false}
 use lib.IntN.{ℤ, pos}
 use lib.Ieee.{Float, binary64, fin, round, add, sub, mul, div, ofInt}
 
@@ -33,3 +33,6 @@ zero = fin false 0 (pos 0)
 
 abbrev pub one : Float
 one = fin false 1 (pos 0)
+
+abbrev pub minusOne : Float
+minusOne = fin true 1 (pos 0)

@@ -2,6 +2,7 @@
 // equation for its result on every double. The upper crates use only these promises and the laws of
 // proofs/Laws.antt.
 mod approx;
+mod bits;
 mod circular;
 mod power;
 mod range;
@@ -10,6 +11,8 @@ mod whole;
 
 pub use approx::approx_exp2;
 pub use approx::approx_log2;
+pub use bits::bits_of;
+pub use bits::of_bits;
 pub use circular::cosine;
 pub use circular::sine;
 pub use power::floor_log2;

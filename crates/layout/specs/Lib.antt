@@ -1,0 +1,6 @@
+pub mod Name
+pub mod Channels
+pub mod Topology
+pub mod Questions
+pub mod Same
+pub mod Build

@@ -1,0 +1,60 @@
+// A room as a value: channels, and a topology of layers, rows and anchors; and questions 1 to 6 of
+// document 01.
+//
+// Everything is flat: the rows stand layer after layer and the anchors row after row, each layer
+// with the count of its rows and each row with the count of its anchors. Fields are public, and any
+// value may stand in them: the questions look at a count before anything is read by it.
+mod build;
+mod channels;
+mod name;
+mod numbers;
+mod questions;
+mod same;
+mod walk;
+
+pub use channels::active_count;
+pub use channels::active_names;
+pub use channels::active_place;
+pub use channels::is_active;
+pub use name::is_name;
+pub use questions::first_no;
+pub use same::same_layout;
+pub use walk::anchor_names;
+pub use walk::anchor_starts;
+pub use walk::anchor_total;
+pub use walk::anchor_xs;
+pub use walk::layer_zs;
+pub use walk::row_starts;
+pub use walk::row_total;
+pub use walk::row_ys;
+
+// A name is up to eight bytes, the first one lowest, with zeros behind.
+pub struct Channel {
+    pub name: u64,
+    pub enabled: bool,
+    pub lfe: bool,
+}
+
+pub struct Anchor {
+    pub name: u64,
+    pub x: f64,
+}
+
+pub struct Row {
+    pub y: f64,
+    pub count: usize,
+}
+
+pub struct Layer {
+    pub z: f64,
+    pub count: usize,
+}
+
+pub struct Layout {
+    pub channels: [Channel; 24],
+    pub used: usize,
+    pub layers: [Layer; 4],
+    pub depth: usize,
+    pub rows: [Row; 24],
+    pub anchors: [Anchor; 24],
+}

@@ -1,0 +1,114 @@
+// A layout's topology as lists of numbers, for the code that walks it: the rows of layer i are those
+// from row_starts[i] up to row_starts[i + 1], and the anchors of row r those from anchor_starts[r]
+// up to anchor_starts[r + 1].
+ghost use mathlib.Core.Path.{_≡_};
+ghost use mathlib.Core.List.{map};
+ghost use Prim.Native.Nat.{_+_, _≤_, min};
+ghost use lib.ListN.{length};
+ghost use Rattle.layout.specs.Topology.{usedRows, usedAnchors, rowStarts, anchorStarts, layerZ, rowY, anchorX, anchorName};
+use crate::Layout;
+
+// z of each layer.
+pub fn layer_zs(l: Layout, out: &mut [f64; 4])
+    ensures { λ _. ⌜ now (out .exit) ≡ map layerZ (l .layers) ⌝ }
+{
+    let mut i = 0usize;
+    while i < 4 {
+        out[i] = l.layers[i].z;
+        i += 1;
+    }
+}
+
+// y of each row.
+pub fn row_ys(l: Layout, out: &mut [f64; 24])
+    ensures { λ _. ⌜ now (out .exit) ≡ map rowY (l .rows) ⌝ }
+{
+    let mut i = 0usize;
+    while i < 24 {
+        out[i] = l.rows[i].y;
+        i += 1;
+    }
+}
+
+// x of each anchor.
+pub fn anchor_xs(l: Layout, out: &mut [f64; 24])
+    ensures { λ _. ⌜ now (out .exit) ≡ map anchorX (l .anchors) ⌝ }
+{
+    let mut i = 0usize;
+    while i < 24 {
+        out[i] = l.anchors[i].x;
+        i += 1;
+    }
+}
+
+// The name of each anchor.
+pub fn anchor_names(l: Layout, out: &mut [u64; 24])
+    ensures { λ _. ⌜ now (out .exit) ≡ map anchorName (l .anchors) ⌝ }
+{
+    let mut i = 0usize;
+    while i < 24 {
+        out[i] = l.anchors[i].name;
+        i += 1;
+    }
+}
+
+// s + c, or 24 where that is more.
+fn next_start(s: usize, c: usize) -> usize
+    requires { ⌜ s ≤ 24 ⌝ }
+    ensures { λ r. ⌜ r ≡ min (s + c) 24 ⌝ }
+{
+    if c <= 24 - s { s + c } else { 24 }
+}
+
+// Where each layer's rows begin, and behind the last where they end.
+pub fn row_starts(l: Layout, out: &mut [usize; 5])
+    ensures { λ _. ⌜ now (out .exit) ≡ rowStarts l ⌝ }
+{
+    let mut s = 0usize;
+    out[0] = 0;
+    let mut i = 0usize;
+    while i < 4 {
+        s = next_start(s, l.layers[i].count);
+        out[i + 1] = s;
+        i += 1;
+    }
+}
+
+// Where each row's anchors begin, and behind the last where they end.
+pub fn anchor_starts(l: Layout, out: &mut [usize; 25])
+    ensures { λ _. ⌜ now (out .exit) ≡ anchorStarts l ⌝ }
+{
+    let mut s = 0usize;
+    out[0] = 0;
+    let mut i = 0usize;
+    while i < 24 {
+        s = next_start(s, l.rows[i].count);
+        out[i + 1] = s;
+        i += 1;
+    }
+}
+
+// How many of the four places of layers a count covers.
+pub fn covered_layers(depth: usize) -> usize
+    ensures { λ r. ⌜ r ≡ min depth 4 ⌝ }
+{
+    if depth < 4 { depth } else { 4 }
+}
+
+// How many rows the layout has.
+pub fn row_total(l: Layout) -> usize
+    ensures { λ r. ⌜ r ≡ length (usedRows l) ⌝ }
+{
+    let mut starts = [0usize; 5];
+    row_starts(l, &mut starts);
+    starts[covered_layers(l.depth)]
+}
+
+// How many anchors the layout has.
+pub fn anchor_total(l: Layout) -> usize
+    ensures { λ r. ⌜ r ≡ length (usedAnchors l) ⌝ }
+{
+    let mut starts = [0usize; 25];
+    anchor_starts(l, &mut starts);
+    starts[row_total(l)]
+}
