@@ -24,5 +24,8 @@ fn main() {
             text = text.replace(call, stand_in);
         }
         fs::write(to.join(name), text).unwrap();
+        // the calls as they are, for the benchmarks
+        let text = fs::read_to_string(from.join(name)).unwrap().replace("//!", "//");
+        fs::write(to.join(format!("original_{name}")), text).unwrap();
     }
 }

@@ -16,7 +16,8 @@ use lib.Ieee.Order.{drop, le-of-values}
 use lib.Ieee.Positive.{first-pos}
 use lib.Ieee.Scale.{grid, finite, round-same}
 use Rattle.doubles.specs.Root.{sqrtOf, roundRoot}
-use Rattle.doubles.specs.Norm.{zeroF, fiveQuarters, sumFrom, Bounded}
+use Rattle.doubles.specs.Arithmetic.{zero as zeroF}
+use Rattle.doubles.specs.Norm.{fiveQuarters, foldSquares, Bounded}
 use Rattle.doubles.proofs.Magnitude.{mag, mag-of, mag-val, sign, plain, plain-finite, plain-val, plain-of, round-at, mul-at, mul-cross, div-at, mag-lt}
 use Rattle.doubles.proofs.Rounding.{grid-near, step-small}
 use Rattle.doubles.proofs.Signs.{clear, notNeg, round-clear, round-zero, add-clear, square-clear}
@@ -24,8 +25,8 @@ use Rattle.doubles.proofs.Order.{mag-mono, mag-le, clear-finite, plain-
 use Rattle.doubles.proofs.Roots.{handed, root-fraction, root-under, root-over, sq-le-back, sq-lt-back}
 
 -- ---- the sum: no partial sum and no square is above it
-sum-from : (f : Format) (s : Float) (v : List Float) → T (clear s) → T (fits f s) → T (finite (sumFrom f s v)) → T (plain s) × T (plain (sumFrom f s v)) × (mag f s ≤ mag f (sumFrom f s v))
-unfolding sumFrom
+sum-from : (f : Format) (s : Float) (v : List Float) → T (clear s) → T (fits f s) → T (finite (foldSquares f s v)) → T (plain s) × T (plain (foldSquares f s v)) × (mag f s ≤ mag f (foldSquares f s v))
+unfolding foldSquares
 sum-from f s [] c h t = (clear-finite s c t, clear-finite s c t, le-refl (mag f s))
 sum-from f s (x ∷ xs) c h t =
     let y = mul f x x in
@@ -34,19 +35,19 @@ sum-from f s (x ∷ xs) c h t =
     let p = add-parts f s y c (square-clear f x) (plain-finite a (r .0)) in
     (p .0, r .1, le-trans (mag-mono f s a h (add-fits f s y) (p .0) (r .0) (add-ge f s y h (mul-fits f x x) (p .0) (p .1) .0)) (r .2))
 
-sum-fits : (f : Format) (s : Float) (v : List Float) → T (fits f s) → T (fits f (sumFrom f s v))
-unfolding sumFrom
+sum-fits : (f : Format) (s : Float) (v : List Float) → T (fits f s) → T (fits f (foldSquares f s v))
+unfolding foldSquares
 sum-fits f s [] h = h
 sum-fits f s (x ∷ xs) h = sum-fits f (add f s (mul f x x)) xs (add-fits f s (mul f x x))
 
-sum-square : (f : Format) (s : Float) (v : List Float) (x : Float) → List·Memᴰ x v → T (clear s) → T (fits f s) → T (finite (sumFrom f s v)) → T (plain (mul f x x)) × (mag f (mul f x x) ≤ mag f (sumFrom f s v))
-unfolding sumFrom
+sum-square : (f : Format) (s : Float) (v : List Float) (x : Float) → List·Memᴰ x v → T (clear s) → T (fits f s) → T (finite (foldSquares f s v)) → T (plain (mul f x x)) × (mag f (mul f x x) ≤ mag f (foldSquares f s v))
+unfolding foldSquares
 sum-square f s (z ∷ zs) x (List·Memᴰ·head e) c h t =
     let y = mul f z z in
     let a = add f s y in
     let r = sum-from f a zs (add-clear f s y c (square-clear f z)) (add-fits f s y) t in
     let p = add-parts f s y c (square-clear f z) (plain-finite a (r .0)) in
-    subst (λ (w : Float). T (plain (mul f w w)) × (mag f (mul f w w) ≤ mag f (sumFrom f a zs))) (sym e)
+    subst (λ (w : Float). T (plain (mul f w w)) × (mag f (mul f w w) ≤ mag f (foldSquares f a zs))) (sym e)
     (p .1, le-trans (mag-mono f y a (mul-fits f z z) (add-fits f s y) (p .1) (r .0) (add-ge f s y h (mul-fits f z z) (p .0) (p .1) .1)) (r .2))
 sum-square f s (z ∷ zs) x (List·Memᴰ·tail m) c h t = sum-square f (add f s (mul f z z)) zs x m (add-clear f s (mul f z z) c (square-clear f z)) (add-fits f s (mul f z z)) t
 
@@ -272,7 +273,7 @@ unfolding fits
 five-quarters-fits binary32 = tt
 five-quarters-fits binary64 = tt
 
-zero-le-plain : (r : Float) → T (plain r) → T (le zeroF r)
+pub zero-le-plain : (r : Float) → T (plain r) → T (le zeroF r)
 zero-le-plain nan p = absurd p
 zero-le-plain (inf s) p = absurd p
 zero-le-plain (fin true m e) p = absurd p
@@ -315,11 +316,11 @@ mag-pos f (fin false m e) h p l =
     first-pos (mag f (fin false m e)) (down e) (lt-of-lt-of-le (mul-pos (lt-of-le-of-lt zero-le (lt-of-lt-of-le (ltb→lt (0 * 1 * down e) (m * up e * 1) l) (le-of-eq (mul-one (m * up e))))) (pow-pos (low f))) (le-of-eq (mag-val f (fin false m e) h tt .1)))
 
 -- ---- the theorem
-pub norm-bound : (f : Format) (v : List Float) (x : Float) → T (finite (sumFrom f zeroF v)) → T (lt zeroF (sumFrom f zeroF v)) → List·Memᴰ x v → T (fits f x) → T (notNeg x) → Bounded (div f x (sqrtOf f (sumFrom f zeroF v)))
+pub norm-bound : (f : Format) (v : List Float) (x : Float) → T (finite (foldSquares f zeroF v)) → T (lt zeroF (foldSquares f zeroF v)) → List·Memᴰ x v → T (fits f x) → T (notNeg x) → Bounded (div f x (sqrtOf f (foldSquares f zeroF v)))
 norm-bound f v x t l i h n =
     let z : T (fits f zeroF) = unfold fits in tt in
     let s = sum-from f zeroF v tt z t in
-    let S = sumFrom f zeroF v in
+    let S = foldSquares f zeroF v in
     let F : T (fits f S) = sum-fits f zeroF v z in
     let o : 1 ≤ mag f S = mag-pos f S F (s .1) l in
     let q = sum-square f zeroF v x i tt z t in

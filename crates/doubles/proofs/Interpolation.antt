@@ -41,7 +41,7 @@ take-off f a b c h = go (ltb a b) (ltb→lt a b)
     go true k = absurd (not-le-of-lt (k tt) h)
     go false k = round-clear f (a - b) c
 
-cross-mag : (f : Format) (m : ℕ) (e : ℤ) (n : ℕ) (d : ℤ) → T (fits f (fin false m e)) → T (fits f (fin false n d)) → mag f (fin false n d) ≤ mag f (fin false m e) → n * up d * down e ≤ m * up e * down d
+pub cross-mag : (f : Format) (m : ℕ) (e : ℤ) (n : ℕ) (d : ℤ) → T (fits f (fin false m e)) → T (fits f (fin false n d)) → mag f (fin false n d) ≤ mag f (fin false m e) → n * up d * down e ≤ m * up e * down d
 cross-mag f m e n d h k l =
     transfer (n * up d) (m * up e) (down d) (down e) (mag f (fin false n d)) (mag f (fin false m e)) (2 ^ low f) (2 ^ low f) (pow-pos (low f)) (pow-pos (low f)) (mag-val f (fin false n d) k tt .1) (mag-val f (fin false m e) h tt .1) (mul-le-mul-right (2 ^ low f) l)
 
@@ -70,7 +70,7 @@ mul-neg f (fin false m e) (fin false n g) p q = round-neg f (m * up e * (n * up 
 shrink : (t d l : ℕ) → t ≤ l → t * d * l ≤ d * (l * l)
 shrink t d l h = le-trans (mul-le-mul-right l (mul-le-mul-right d h)) (le-of-eq (simp (mul-assoc, mul-comm)))
 
-mul-less : (f : Format) (t d : Float) → T (fits f t) → T (fits f d) → T (plain t) → T (plain d) → mag f t ≤ 2 ^ low f → T (fits f (mul f t d)) × T (plain (mul f t d)) × (mag f (mul f t d) ≤ mag f d)
+pub mul-less : (f : Format) (t d : Float) → T (fits f t) → T (fits f d) → T (plain t) → T (plain d) → mag f t ≤ 2 ^ low f → T (fits f (mul f t d)) × T (plain (mul f t d)) × (mag f (mul f t d) ≤ mag f d)
 mul-less f t d h k p q l =
     let L = pow-pos (low f) in
     let u = 2 ^ low f in
@@ -145,15 +145,15 @@ minus-zero f m e x (fin t n g) h c =
 one-mag : (f : Format) → mag f (fin false 1 (pos 0)) ≡ 2 ^ low f
 one-mag f = mag-of f (fin false 1 (pos 0)) false (2 ^ low f) (refl, ap (λ (z : ℕ). z * 2 ^ low f) (mul-one 1) ∙ mul-comm 1 (2 ^ low f))
 
-one-fits : (f : Format) → T (fits f (fin false 1 (pos 0)))
+pub one-fits : (f : Format) → T (fits f (fin false 1 (pos 0)))
 unfolding fits
 one-fits binary32 = tt
 one-fits binary64 = tt
 
-to-one : (f : Format) (t : Float) → T (fits f t) → T (plain t) → T (le t (fin false 1 (pos 0))) → mag f t ≤ 2 ^ low f
+pub to-one : (f : Format) (t : Float) → T (fits f t) → T (plain t) → T (le t (fin false 1 (pos 0))) → mag f t ≤ 2 ^ low f
 to-one f t h p l = subst (λ (z : ℕ). mag f t ≤ z) (one-mag f) (mag-mono f t (fin false 1 (pos 0)) h (one-fits f) p tt l)
 
-is-zero : (n : ℕ) (d : ℤ) → T (le (fin false 0 (pos 0)) (fin true n d)) → T (eqb n 0)
+pub is-zero : (n : ℕ) (d : ℤ) → T (le (fin false 0 (pos 0)) (fin true n d)) → T (eqb n 0)
 unfolding le
 is-zero zero d h = tt
 is-zero (suc n) d h = absurd (lt-irrefl 0 (lt-of-lt-of-le (mul-pos (mul-pos (zero-lt-suc n) (up-pos d)) (zero-lt-suc 0)) (le-of-eq (sym (eqb→eq (0 * 1 * down d) (suc n * up d * 1) (and-l (eqb (0 * 1 * down d) (suc n * up d * 1)) (eqb (0 * 1 * down d) 0) h)) ∙ zero-mul (down d)))))
@@ -186,3 +186,11 @@ lerp-clear f (inf true) b t h k c d lo hi = absurd c
 lerp-clear f (inf false) b t h k c d lo hi = add-inf f (mul f t (sub f b (inf false)))
 lerp-clear f (fin true m e) b t h k c d lo hi = absurd c
 lerp-clear f (fin false m e) b t h k c d lo hi = by-t f m e (sub f b (fin false m e)) t h k lo hi (diff f m e b h d)
+
+-- ---- what is from zero up is not negative
+pub notNeg-le : (x : Float) → T (le (fin false 0 (pos 0)) x) → T (notNeg x)
+notNeg-le nan h = tt
+notNeg-le (inf true) h = unfold le in h
+notNeg-le (inf false) h = tt
+notNeg-le (fin false m e) h = tt
+notNeg-le (fin true m e) h = is-zero m e h

@@ -2,6 +2,10 @@ pub mod Magnitude
 pub mod Rounding
 pub mod Signs
 pub mod Order
+pub mod Fractions
+pub mod AddZero
 pub mod Roots
 pub mod Interpolation
+pub mod Differences
 pub mod Bound
+pub mod Laws

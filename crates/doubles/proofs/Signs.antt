@@ -135,7 +135,7 @@ notNeg-says (inf s) h = h
 notNeg-says (fin false m e) h = le→nltb (m * up e * 1) (0 * 1 * down e) (subst (λ (k : ℕ). k ≤ m * up e * 1) (sym (zero-mul (down e))) zero-le)
 notNeg-says (fin true m e) h = le→nltb 0 (m * up e * 1 + 0 * 1 * down e) (le-of-eq (ap (λ (k : ℕ). k * up e * 1 + 0 * 1 * down e) (eqb→eq m 0 h) ∙ ap (λ (k : ℕ). k * 1 + 0 * 1 * down e) (zero-mul (up e)) ∙ ap (λ (k : ℕ). 0 * 1 + k) (zero-mul (down e))))
 
-clear-notNeg : (x : Float) → T (clear x) → T (notNeg x)
+pub clear-notNeg : (x : Float) → T (clear x) → T (notNeg x)
 clear-notNeg nan h = tt
 clear-notNeg (inf s) h = h
 clear-notNeg (fin true m e) h = absurd h

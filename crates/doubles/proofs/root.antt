@@ -1,3 +1,4 @@
 pub mod DigitLoop
 pub mod Nearest
 pub mod Squares
+pub mod Tested

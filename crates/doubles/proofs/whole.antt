@@ -1,1 +1,2 @@
 pub mod Floors
+pub mod Nearest

@@ -1,10 +1,11 @@
 -- Sine and cosine, document 01's stand-ins. Definitions only.
-use Prim.Native.Nat.{ℕ}
-use mathlib.Core.Bool.{cond}
+use Prim.Native.Nat.{ℕ, _^_}
+use mathlib.Core.Bool.{Bool, true, _&&_, cond}
 use mathlib.Core.List.{List, [], _∷_}
+use lib.Dec.{leb}
 use lib.IntN.{pos}
 use lib.Ieee.{Float, le}
-use Rattle.doubles.specs.Arithmetic.{_⊖_, _⊗_, _⊘_, dec, whole, one}
+use Rattle.doubles.specs.Arithmetic.{_⊖_, _⊗_, _⊘_, dec, whole, zero, one}
 
 -- 1!, 3! to 15!
 abbrev pub oddFactorials : List ℕ
@@ -18,16 +19,23 @@ evenFactorials = 1 ∷ 2 ∷ 24 ∷ 720 ∷ 40320 ∷ 3628800 ∷ 479001600 ∷ 
 abbrev pub inverse : ℕ → Float
 inverse k = one ⊘ whole (pos k)
 
--- c0 - y (c1 - y (c2 ...)), the c being the inverses of the list
+-- each entry is at most 2 ^ 53, and so a double
+abbrev pub exact : List ℕ → Bool
+exact [] = true
+exact (k ∷ ks) = leb k (2 ^ 53) && exact ks
+
+-- c0 - y (c1 - y (c2 ...)), the c being the inverses of a list that is never empty
 unfoldable pub series : Float → List ℕ → Float
-series y [] = inverse 0
+series y [] = zero
 series y (k ∷ []) = inverse k
 series y (k ∷ j ∷ ks) = inverse k ⊖ y ⊗ series y (j ∷ ks)
 
+-- S(b)
 unfoldable pub sineSeries : Float → Float
 unfolding series
 sineSeries b = b ⊗ series (b ⊗ b) oddFactorials
 
+-- C(b)
 unfoldable pub cosineSeries : Float → Float
 unfolding series
 cosineSeries b = series (b ⊗ b) evenFactorials

@@ -3,6 +3,7 @@ pub mod Floor
 pub mod Root
 pub mod Power
 pub mod Circular
-pub mod Approx
+pub mod Exp2
+pub mod Log2
 pub mod Range
 pub mod Norm

@@ -33,20 +33,16 @@ sqrtOf f (fin s zero e) = fin s zero e
 sqrtOf f (fin true (suc m) e) = nan
 sqrtOf f (fin false (suc m) e) = roundRoot f (suc m * up e) (down e)
 
--- ---- what the parts of `sqrt` promise
+-- ---- the same without an algorithm
 
--- q is √n rounded down
-abbrev pub IsRoot : ℕ → ℕ → Type 0
-IsRoot n q = (q * q ≤ n) × (n < suc q * suc q)
+-- x in units of the square of the least double, 2 ^ -1074 * 2 ^ -1074. The quotient is exact: a finite double is a whole number of least doubles.
+abbrev pub squareUnits : Float → ℕ
+squareUnits nan = 0
+squareUnits (inf s) = 0
+squareUnits (fin s m e) = m * up e * 2 ^ 1074 / down e * 2 ^ 1074
 
--- q', r' are the root and the rest of 4 n + d, where q, r are those of n
-pub record Steps (q r d q' r' : ℕ) : Type 0 where
-  pub sum : q' * q' + r' ≡ (q * q + r) * 4 + d
-  pub rest : r' ≤ 2 * q'
-  pub most : q' ≤ 2 * q + 1
-
--- r is √v rounded to the nearest, v being in units of the square of the least value: it is g * 2 ^ k units, and 2 ^ k is the weight of the last of its 53 digits.
--- Said with both sides squared, in halves of a unit: √v is from 2 ^ 52 up and below 2 ^ 53 times 2 ^ k, and is nearer than half of 2 ^ k to r.
+-- r is √v rounded to the nearest, v being in units of the square of the least double: the exact argument lies between the squares of the two midpoints around the result.
+-- r is g * 2 ^ k least doubles. 2 ^ k is the weight of the last of its 53 digits, for √v is from 2 ^ 52 up and below 2 ^ 53 times 2 ^ k. The midpoints are (2 * g - 1) * 2 ^ k / 2 and (2 * g + 1) * 2 ^ k / 2. Each line is squared and taken four times, which leaves whole numbers.
 pub record NearRoot (v : ℕ) (r : Float) : Type 0 where
   pub g : ℕ
   pub k : ℕ
@@ -55,3 +51,19 @@ pub record NearRoot (v : ℕ) (r : Float) : Type 0 where
   pub hi : 4 * v < 2 ^ 54 * 2 ^ k * (2 ^ 54 * 2 ^ k)
   pub under : (2 * g - 1) * 2 ^ k * ((2 * g - 1) * 2 ^ k) < 4 * v
   pub over : 4 * v < (2 * g + 1) * 2 ^ k * ((2 * g + 1) * 2 ^ k)
+
+-- ---- what the parts of `sqrt` promise
+
+-- q is √n rounded down
+abbrev pub IsRoot : ℕ → ℕ → Type 0
+IsRoot n q = (q * q ≤ n) × (n < suc q * suc q)
+
+-- g is √n rounded to the nearest: g - 1/2 < √n < g + 1/2, squared, without the quarter, since n is whole
+abbrev pub IsNearestRoot : ℕ → ℕ → Type 0
+IsNearestRoot n g = (g * g < n + g) × (n ≤ g * g + g)
+
+-- q', r' are the root and the rest of 4 n + d, where q, r are those of n
+pub record Steps (q r d q' r' : ℕ) : Type 0 where
+  pub sum : q' * q' + r' ≡ (q * q + r) * 4 + d
+  pub rest : r' ≤ 2 * q'
+  pub most : q' ≤ 2 * q + 1

@@ -1,20 +1,21 @@
 // Doubles: floor, square root, powers of two, sine, cosine and the two approximations, each with an
 // equation for its result on every double. The upper crates use only these promises and the laws of
 // proofs/Laws.antt.
-mod approx;
 mod bits;
 mod circular;
+mod exp2;
+mod log2;
 mod power;
 mod range;
 mod root;
 mod whole;
 
-pub use approx::approx_exp2;
-pub use approx::approx_log2;
 pub use bits::bits_of;
 pub use bits::of_bits;
 pub use circular::cosine;
 pub use circular::sine;
+pub use exp2::approx_exp2;
+pub use log2::approx_log2;
 pub use power::floor_log2;
 pub use power::pow2;
 pub use power::pow2_i32;

@@ -1,8 +1,14 @@
 // The square root.
 ghost use mathlib.Core.Path.{_≡_};
 ghost use Prim.Native.Nat.{_+_, _*_, _^_, _<_, _≤_};
-ghost use lib.Ieee.{binary64};
-ghost use Rattle.doubles.specs.Root.{sqrtOf, Steps, IsRoot, NearRoot};
+ghost use lib.Dec.{T};
+ghost use lib.Ieee.{binary64, lt};
+ghost use lib.Ieee.Scale.{finite};
+ghost use Rattle.doubles.specs.Arithmetic.{zero};
+ghost use Rattle.doubles.specs.Root.{sqrtOf, squareUnits, Steps, IsRoot, IsNearestRoot, NearRoot};
+
+// 2 ^ 27 + 1, which splits a double into two halves of its digits.
+const SPLIT: f64 = 134217729.0;
 
 // A root so far, and what is left: of n it is q with q * q + r = n and r <= 2 q.
 struct Part {
@@ -12,7 +18,7 @@ struct Part {
 
 // One binary digit more, with the next two digits d of n.
 fn step(a: Part, d: u64) -> Part
-    requires { ⌜ a .q < 9007199254740992 ⌝ }
+    requires { ⌜ a .q < 2 ^ 53 ⌝ }
     requires { ⌜ a .r ≤ 2 * (a .q) ⌝ }
     requires { ⌜ d < 4 ⌝ }
     ensures { λ b. ⌜ Steps (a .q) (a .r) d (b .q) (b .r) ⌝ }
@@ -31,8 +37,8 @@ fn step(a: Part, d: u64) -> Part
 
 // The root of m * 2 ^ 54, rounded down: of m's 27 pairs of digits, and then of 27 pairs of zeros.
 fn digits(m: u64) -> u64
-    requires { ⌜ m < 18014398509481984 ⌝ }
-    ensures { λ q. ⌜ IsRoot (m * 18014398509481984) q ⌝ }
+    requires { ⌜ m < 2 ^ 54 ⌝ }
+    ensures { λ q. ⌜ IsRoot (m * 2 ^ 54) q ⌝ }
 {
     let mut a = Part { q: 0, r: 0 };
     let mut i = 0u64;
@@ -52,8 +58,8 @@ fn digits(m: u64) -> u64
 // last digit, and q its 53 digits and one more. The root is never halfway between two doubles, so
 // the last digit of q says which way to go.
 fn rounded(m: u64, e: u64) -> f64
-    requires { ⌜ 4503599627370496 ≤ m ⌝ }
-    requires { ⌜ m < 9007199254740992 ⌝ }
+    requires { ⌜ 2 ^ 52 ≤ m ⌝ }
+    requires { ⌜ m < 2 ^ 53 ⌝ }
     requires { ⌜ 1022 ≤ e ⌝ }
     requires { ⌜ e < 3120 ⌝ }
     ensures { λ r. ⌜ NearRoot (m * 2 ^ e) r ⌝ }
@@ -63,24 +69,107 @@ fn rounded(m: u64, e: u64) -> f64
     f64::from_bits((k << 52) + ((q + 1) >> 1))
 }
 
+// 1 / √x within 4 %, by the pattern b of x.
+fn seed(b: u64) -> f64
+    requires { ⌜ b < 2 ^ 63 ⌝ }
+{
+    f64::from_bits(0x5fe6_eb50_c7b5_37a9 - (b >> 1))
+}
+
+// A step of Newton's from y towards 1 / √x, where h is x / 2. It doubles the right digits.
+fn newton(h: f64, y: f64) -> f64 {
+    1.5 * y - (h * y) * (y * y)
+}
+
+// √x by y near 1 / √x: s is x * y, and one step of Newton's from it, with x - s * s nearly exact.
+fn corrected(x: f64, y: f64) -> f64 {
+    let s = x * y;
+    let t = SPLIT * s;
+    let a = t - (t - s);
+    let r = (x - a * a) - (s - a) * (s + a);
+    s + (0.5 * y) * r
+}
+
+// A guess at √x, by x's pattern b. It promises nothing: `is_rounded` tests it.
+fn guess(x: f64, b: u64) -> f64
+    requires { ⌜ b < 2 ^ 63 ⌝ }
+{
+    let h = 0.5 * x;
+    corrected(x, newton(h, newton(h, newton(h, seed(b)))))
+}
+
+// Whether g is the root of m * 2 ^ 52 to the nearest. g * g is hi * 2 ^ 52 + lo. w is what m is over
+// hi, times 2 ^ 52, and 4 * 2 ^ 52 more, which keep it from going below zero.
+fn is_root(m: u64, g: u64) -> bool
+    requires { ⌜ m < 2 ^ 54 ⌝ }
+    requires { ⌜ g < 2 ^ 53 ⌝ }
+    ensures { λ t. ⌜ (T t → IsNearestRoot (m * 2 ^ 52) g) ⌝ }
+{
+    let a = g / 0x400_0000;
+    let c = g % 0x400_0000;
+    let d = 2 * a * c;
+    let hi = a * a + d / 0x400_0000;
+    let lo = (d % 0x400_0000) * 0x400_0000 + c * c;
+    if (hi <= m + 4) & (m <= hi + 4) {
+        let w = (m + 4 - hi) * 0x10_0000_0000_0000;
+        (lo + 0x40_0000_0000_0000 < w + g) & (w <= lo + g + 0x40_0000_0000_0000)
+    } else {
+        false
+    }
+}
+
+// Whether s is the root that `rounded` gives, tested exactly.
+fn is_rounded(m: u64, e: u64, s: f64) -> bool
+    requires { ⌜ 2 ^ 52 ≤ m ⌝ }
+    requires { ⌜ m < 2 ^ 53 ⌝ }
+    requires { ⌜ 1022 ≤ e ⌝ }
+    requires { ⌜ e < 3120 ⌝ }
+    ensures { λ t. ⌜ (T t → NearRoot (m * 2 ^ e) s) ⌝ }
+{
+    if s > 0.0 {
+        let b: u64 = f64::to_bits(s);
+        if b >> 52 == (e - 50) >> 1 {
+            is_root(m << (e & 1), (b & 0xf_ffff_ffff_ffff) | 0x10_0000_0000_0000)
+        } else {
+            false
+        }
+    } else {
+        false
+    }
+}
+
+// The root of an x above zero and finite: of a normal x the guess where that is right, else by digits.
+fn sqrt_positive(x: f64) -> f64
+    requires { ⌜ T (lt zero x) ⌝ }
+    requires { ⌜ T (finite x) ⌝ }
+    ensures { λ r. ⌜ NearRoot (squareUnits x) r ⌝ }
+{
+    let b: u64 = f64::to_bits(x);
+    let e: u64 = b >> 52;
+    if e > 0 {
+        let m = (b & 0xf_ffff_ffff_ffff) | 0x10_0000_0000_0000;
+        let k = e + 1073;
+        let s = guess(x, b);
+        if is_rounded(m, k, s) {
+            s
+        } else {
+            rounded(m, k)
+        }
+    } else {
+        let n: u64 = (u64::leading_zeros(b) as u64) - 11;
+        rounded(b << n, 1074 - n)
+    }
+}
+
 // The square root of x to the nearest double. Zeros, the positive infinity and NaN stay themselves,
-// and of a number below zero it is NaN.
+// and of a number below zero it is NaN. `nearest` says the same of an x above zero and finite without
+// an algorithm: x lies between the squares of the two midpoints around the result.
 pub fn sqrt(x: f64) -> f64
     ensures { λ r. ⌜ r ≡ sqrtOf binary64 x ⌝ }
+    ensures nearest { λ r. ⌜ (T (lt zero x) → T (finite x) → NearRoot (squareUnits x) r) ⌝ }
 {
     if x > 0.0 {
-        if x < 1.0 / 0.0 {
-            let b: u64 = f64::to_bits(x);
-            let e: u64 = b >> 52;
-            if e > 0 {
-                rounded((b & 0xf_ffff_ffff_ffff) | 0x10_0000_0000_0000, e + 1073)
-            } else {
-                let s: u64 = (u64::leading_zeros(b) as u64) - 11;
-                rounded(b << s, 1074 - s)
-            }
-        } else {
-            x
-        }
+        if x < 1.0 / 0.0 { sqrt_positive(x) } else { x }
     } else if x == 0.0 {
         x
     } else {

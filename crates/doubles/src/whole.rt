@@ -1,10 +1,28 @@
 // The floor of a double.
 ghost use mathlib.Core.Path.{_≡_};
-ghost use lib.Ieee.{binary64};
+ghost use mathlib.Core.Bool.{true, false};
+ghost use lib.Dec.{T};
+ghost use lib.IntN.{pos};
+ghost use lib.Ieee.{binary64, fin, add, lt, le};
+ghost use Rattle.doubles.specs.Arithmetic.{zero};
 ghost use Rattle.doubles.specs.Floor.{floorOf};
 
-// x without its fraction, down. Zeros, infinities and NaN stay themselves.
-pub fn floor(x: f64) -> f64
+// 1.5 * 2 ^ 52. Between 2 ^ 52 and 2 ^ 53 the doubles are the whole numbers.
+const SHIFT: f64 = 6755399441055744.0;
+
+// The floor of an x from -2 ^ 51 up and below 2 ^ 51, with -0 as +0. The sum with SHIFT is rounded to
+// the nearest whole number, and the difference is exact.
+pub(crate) fn floor_near(x: f64) -> f64
+    requires { ⌜ T (le (fin true 1 (pos 51)) x) ⌝ }
+    requires { ⌜ T (lt x (fin false 1 (pos 51))) ⌝ }
+    ensures { λ r. ⌜ r ≡ add binary64 (floorOf binary64 x) zero ⌝ }
+{
+    let n = (x + SHIFT) - SHIFT;
+    if n > x { n - 1.0 } else { n }
+}
+
+// The floor of any x, by its whole part.
+fn floor_any(x: f64) -> f64
     ensures { λ r. ⌜ r ≡ floorOf binary64 x ⌝ }
 {
     if x > 0.0 {
@@ -23,4 +41,15 @@ pub fn floor(x: f64) -> f64
         }
     }
     x
+}
+
+// x without its fraction, down. Zeros, infinities and NaN stay themselves.
+pub fn floor(x: f64) -> f64
+    ensures { λ r. ⌜ r ≡ floorOf binary64 x ⌝ }
+{
+    if (x > -2251799813685248.0) & (x < 2251799813685248.0) & (x != 0.0) {
+        floor_near(x)
+    } else {
+        floor_any(x)
+    }
 }

@@ -2,8 +2,9 @@
 use Prim.Native.Nat.{ℕ, _+_, min}
 use mathlib.Core.List.{List, [], _∷_, map}
 use lib.Ieee.{Float, nan}
-use lib.ListN.{take, drop}
-use Rattle.lists.specs.Lists.{total, concat}
+use lib.ListN.{take, drop, getD}
+use Rattle.lists.specs.Lists.{total, placeOf}
+use Rattle.layout.specs.Channels.{activeNames}
 use Rattle.layout.specs.declared.Anchor.{Anchor}
 use Rattle.layout.specs.declared.Row.{Row}
 use Rattle.layout.specs.declared.Layer.{Layer}
@@ -70,6 +71,14 @@ rowStarts l = startsFrom 0 (map layerCount (l .layers))
 
 abbrev pub anchorStarts : Layout → List ℕ
 anchorStarts l = startsFrom 0 (map rowCount (l .rows))
+
+-- where each layer's anchors begin
+abbrev pub layerStarts : Layout → List ℕ
+layerStarts l = map (λ (r : ℕ). getD (anchorStarts l) r 0) (rowStarts l)
+
+-- the place, among the active channels, of the channel that an anchor names
+abbrev pub anchorPlace : Layout → Anchor → ℕ
+anchorPlace l a = placeOf (a .name) (activeNames l)
 
 -- ---- what stands past the end of a list
 abbrev pub noAnchor : Anchor

@@ -5,8 +5,10 @@ ghost use mathlib.Core.Path.{_≡_};
 ghost use mathlib.Core.List.{map};
 ghost use Prim.Native.Nat.{_+_, _≤_, min};
 ghost use lib.ListN.{length};
-ghost use Rattle.layout.specs.Topology.{usedRows, usedAnchors, rowStarts, anchorStarts, layerZ, rowY, anchorX, anchorName};
+ghost use Rattle.layout.specs.Topology.{usedRows, usedAnchors, rowStarts, anchorStarts, layerStarts, anchorPlace, layerZ, rowY, anchorX, anchorName};
 use crate::Layout;
+use crate::channels::active_names;
+use crate::numbers::place_of;
 
 // z of each layer.
 pub fn layer_zs(l: Layout, out: &mut [f64; 4])
@@ -111,4 +113,33 @@ pub fn anchor_total(l: Layout) -> usize
     let mut starts = [0usize; 25];
     anchor_starts(l, &mut starts);
     starts[row_total(l)]
+}
+
+// The place, among the active channels, of the channel that each anchor names.
+pub fn anchor_places(l: Layout, out: &mut [usize; 24])
+    ensures { λ _. ⌜ now (out .exit) ≡ map (anchorPlace l) (l .anchors) ⌝ }
+{
+    let mut names = [0u64; 24];
+    let n = active_names(l, &mut names);
+    let mut i = 0usize;
+    while i < 24 {
+        out[i] = place_of(&names, n, l.anchors[i].name);
+        i += 1;
+    }
+}
+
+// Where each layer's anchors begin, and behind the last where they end.
+pub fn layer_starts(l: Layout, out: &mut [usize; 5])
+    ensures { λ _. ⌜ now (out .exit) ≡ layerStarts l ⌝ }
+{
+    let mut rows = [0usize; 5];
+    row_starts(l, &mut rows);
+    let mut anchors = [0usize; 25];
+    anchor_starts(l, &mut anchors);
+    let mut i = 0usize;
+    while i < 5 {
+        let r = rows[i];
+        out[i] = anchors[r];
+        i += 1;
+    }
 }

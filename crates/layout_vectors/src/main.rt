@@ -26,11 +26,7 @@ pub struct State {
 
 fn digit(c: u8) -> u64 {
     let d = c as u64;
-    if d < 58 {
-        d % 16
-    } else {
-        (d + 9) % 16
-    }
+    if d < 58 { d % 16 } else { (d + 9) % 16 }
 }
 
 fn value(line: &[u8; 21]) -> u64 {

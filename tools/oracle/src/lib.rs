@@ -1,4 +1,6 @@
 //! The original's extent.rs and region.rs with document 01's stand-ins, and the types that they use.
+pub mod random;
+pub mod rooms;
 pub mod standins;
 mod types;
 
@@ -9,7 +11,40 @@ pub mod extent {
     use crate::standins::StandIns as _;
     include!(concat!(env!("OUT_DIR"), "/extent.rs"));
 
-    /// The private functions, for the drivers.
+    /// The private functions and tables, for the drivers.
+    pub mod open {
+        /// The numbers of a place of the store: X, Y, Z and the six end responses, each by itself;
+        /// without a Z table those of Z are empty.
+        pub fn tables(layout: &crate::SpatialLayout) -> [Vec<f64>; 9] {
+            let field = super::ExtentFieldCache::build(layout).unwrap();
+            let ends = |t: &super::AxisResponseTable, i: usize| t.endpoint_responses[0][i].clone();
+            let z = field.z.as_ref();
+            [
+                field.x.values.clone(),
+                field.y.values.clone(),
+                z.map_or(Vec::new(), |z| z.values.clone()),
+                ends(&field.x, 0),
+                ends(&field.x, 1),
+                ends(&field.y, 0),
+                ends(&field.y, 1),
+                z.map_or(Vec::new(), |z| ends(z, 0)),
+                z.map_or(Vec::new(), |z| ends(z, 1)),
+            ]
+        }
+        pub fn exp2(value: f64) -> f64 {
+            super::approx_exp2(value)
+        }
+        pub fn log2(value: f64) -> f64 {
+            super::approx_log2(value)
+        }
+    }
+}
+
+/// extent.rs with its own calls of powi, log2, sin and cos: only the benchmarks use it.
+#[allow(dead_code, clippy::all)]
+pub mod original {
+    include!(concat!(env!("OUT_DIR"), "/original_extent.rs"));
+
     pub mod open {
         pub fn exp2(value: f64) -> f64 {
             super::approx_exp2(value)

@@ -1,18 +1,20 @@
--- What the proof of `pow2_of` cites: the powers of two from their bit patterns. Assumes nothing.
+-- What the proof of `pow2` cites: the powers of two from their bit patterns. Assumes nothing.
 use mathlib.Core.Path.{_≡_, refl, sym, ap, _∙_, subst}
-use Prim.Native.Nat.{ℕ, zero, suc, _+_, _-_, _*_, _/_, _%_, _^_, _≤_, _<_, zero-le}
-use native.Mathlib.Nat.{le-trans, le-of-eq, lt-of-lt-of-le, lt-of-le-of-lt, lt-irrefl, zero-lt-suc, zero-mul, add-zero, mul-one, one-mul, mul-comm, mul-assoc, mul-right-comm, eq-of-mul-eq-mul-right, mul-pos, mul-le-mul-right, mul-le-mul-left, mul-div-cancel, mul-mod-left, mod-eq-of-lt, div-eq-of-lt, mul-lt-mul-of-pos-right}
+use Prim.Native.Nat.{ℕ, suc, _+_, _-_, _*_, _/_, _%_, _^_, _≤_, _<_}
+use native.Mathlib.Nat.{le-of-eq, lt-of-lt-of-le, lt-of-le-of-lt, zero-lt-suc, zero-mul, add-zero, mul-one, one-mul, mul-right-comm, eq-of-mul-eq-mul-right, mul-le-mul-right, mul-le-mul-left, mod-eq-of-lt, div-eq-of-lt}
 use native.Mathlib.Omega.{arith}
 use mathlib.Core.Bool.{Bool, true, false, not, cond, true≢false, false≢true}
 use lib.IntN.{ℤ, pos, negsuc, natAbs, _+ℤ_}
 use lib.Signed.{ltZ, leZ, nonNeg}
 use lib.Arith.{lt→nleb, le→nltb}
 use lib.Dec.{T, leb, ltb, eqb, eqb→eq, not-T, ltb→lt, nltb→le, leb→le, nleb→lt, lit≤, lit<}
-use lib.Pow.{pow-add, pow-pos, pow-mono, pow-lt, shl-lt}
-use lib.Ieee.{Float, nan, inf, fin, binary64, up, down, odd, round, le, fits, ofFields, ofBits, nanBits, isNan}
+use lib.Pow as Pow
+use lib.Pow.{pow-add, pow-pos, pow-mono, pow-lt, high}
+use lib.Ieee.{Float, nan, inf, fin, binary64, up, down, minus, odd, round, le, fits, ofFields, ofBits, nanBits, isNan}
 use lib.Ieee.Fits.{down-pos, round-fits}
 use lib.Ieee.Bits.{ofBits-fits, nanBits-is, is-false, cond-no}
-use lib.Ieee.Exact.{HasValue, odd-sign}
+use lib.Ieee.Digits.{minus-val}
+use lib.Ieee.Exact.{HasValue, odd-sign, round-exact}
 use lib.Ieee.Order.{round-mono}
 use mir.Syntax.{w64}
 use Rattle.doubles.proofs.Order.{lt-or-eq}
@@ -35,29 +37,30 @@ ofBits-is b = refl
 pub under-63 : (b : ℕ) → b < 2 ^ 63 → leb (2 ^ 63) b ≡ false
 under-63 b h = is-false (leb (2 ^ 63) b) (lt→nleb (2 ^ 63) b h)
 
--- ---- normal: (i + 1) * 2 ^ 52
+-- ---- normal: the field i + 1, and the digits t
 pub not-top : (i : ℕ) → i < 2046 → T (not (eqb (suc i) 2047))
 not-top i h = not-T (eqb (suc i) 2047) (λ (t : T (eqb (suc i) 2047)). clash i h (eqb→eq (suc i) 2047 t))
   where
     clash : (i : ℕ) → i < 2046 → suc i ≡ 2047 → ⊥
     clash i h e = omega arith
 
-normal-fields : (i : ℕ) → i < 2046 → HasValue (ofFields binary64 false (suc i) 0) false (2 ^ 52 * 2 ^ i) (2 ^ 1074)
+normal-fields : (i t : ℕ) → i < 2046 → HasValue (ofFields binary64 false (suc i) t) false ((2 ^ 52 + t) * 2 ^ i) (2 ^ 1074)
 unfolding ofFields
-normal-fields i h = subst (λ (z : Float). HasValue z false (2 ^ 52 * 2 ^ i) (2 ^ 1074)) (sym (cond-no (eqb (suc i) 2047) (inf false) (odd 53 false (2 ^ 52) i 1074) (not-top i h))) (odd-sign 53 false (2 ^ 52) i 1074)
+normal-fields i t h =
+    subst (λ (z : Float). HasValue z false ((2 ^ 52 + t) * 2 ^ i) (2 ^ 1074)) (sym (cond-no (eqb (suc i) 2047) (cond (eqb t 0) (inf false) nan) (odd 53 false (2 ^ 52 + t) i 1074) (not-top i h))) (odd-sign 53 false (2 ^ 52 + t) i 1074)
 
-field-lt : (i : ℕ) → i < 2046 → suc i * 2 ^ 52 < 2 ^ 63
-field-lt i h = omega arith
+field-lt : (i t : ℕ) → i < 2046 → t < 2 ^ 52 → suc i * 2 ^ 52 + t < 2 ^ 63
+field-lt i t h k = omega arith
 
-normal-value : (i : ℕ) → i < 2046 → HasValue (ofBits binary64 (suc i * 2 ^ 52)) false (2 ^ 52 * 2 ^ i) (2 ^ 1074)
-normal-value i h =
-    let b = suc i * 2 ^ 52 in
-    let L = field-lt i h in
-    let f : b % 2 ^ 63 / 2 ^ 52 ≡ suc i = ap (λ (z : ℕ). z / 2 ^ 52) (mod-eq-of-lt L) ∙ mul-div-cancel (suc i) (pow-pos 52) in
-    let d : b % 2 ^ 52 ≡ 0 = mul-mod-left (suc i) (2 ^ 52) in
-    subst (λ (z : Float). HasValue z false (2 ^ 52 * 2 ^ i) (2 ^ 1074))
+pub normal-value : (i t : ℕ) → i < 2046 → t < 2 ^ 52 → HasValue (ofBits binary64 (suc i * 2 ^ 52 + t)) false ((2 ^ 52 + t) * 2 ^ i) (2 ^ 1074)
+normal-value i t h k =
+    let b = suc i * 2 ^ 52 + t in
+    let L = field-lt i t h k in
+    let f : b % 2 ^ 63 / 2 ^ 52 ≡ suc i = ap (λ (z : ℕ). z / 2 ^ 52) (mod-eq-of-lt L) ∙ high (suc i) 52 k in
+    let d : b % 2 ^ 52 ≡ t = Pow.low (suc i) 52 k in
+    subst (λ (z : Float). HasValue z false ((2 ^ 52 + t) * 2 ^ i) (2 ^ 1074))
     (sym (ofBits-is b ∙ ap (λ (s : Bool). ofFields binary64 s (b % 2 ^ 63 / 2 ^ 52) (b % 2 ^ 52)) (under-63 b L) ∙ ap (λ (z : ℕ). ofFields binary64 false z (b % 2 ^ 52)) f ∙ ap (λ (z : ℕ). ofFields binary64 false (suc i) z) d))
-    (normal-fields i h)
+    (normal-fields i t h)
 
 -- ---- subnormal: 2 ^ i
 low-fields : (t : ℕ) → HasValue (ofFields binary64 false 0 t) false (t * 2 ^ 0) (2 ^ 1074)
@@ -85,13 +88,21 @@ pub not-nan : (b : ℕ) (a c : ℕ) → HasValue (ofBits binary64 b) false a c �
 not-nan b a c h = subst (λ (z : Bool). T (not z)) (sym (nanBits-is binary64 b)) (value-nan (ofBits binary64 b) false a c h)
 
 -- ---- 2 ^ z by a pattern that has the value w / 2 ^ 1074
-move : (x : Float) (w a c : ℕ) → 0 < c → a * 2 ^ 1074 ≡ w * c → HasValue x false w (2 ^ 1074) → HasValue x false a c
+pub move : (x : Float) (w a c : ℕ) → 0 < c → a * 2 ^ 1074 ≡ w * c → HasValue x false w (2 ^ 1074) → HasValue x false a c
 move nan w a c C e v = absurd v
 move (inf s) w a c C e v = absurd v
 move (fin s m g) w a c C e v = (v .0, eq-of-mul-eq-mul-right (2 ^ 1074) (pow-pos 1074) (m * up g * c) (a * down g) (mul-right-comm (m * up g) c (2 ^ 1074) ∙ ap (λ (z : ℕ). z * c) (v .1) ∙ mul-right-comm w (down g) c ∙ ap (λ (z : ℕ). z * down g) (sym e) ∙ mul-right-comm a (2 ^ 1074) (down g)))
 
 by-pattern : (z : ℤ) (b w : ℕ) → HasValue (ofBits binary64 b) false w (2 ^ 1074) → up z * 2 ^ 1074 ≡ w * down z → ofBits binary64 b ≡ pow2Of binary64 z
 by-pattern z b w v e = sym (pow2Of-is z ∙ round-at binary64 (ofBits binary64 b) false (up z) (down z) (ofBits-fits binary64 b) (down-pos z) (move (ofBits binary64 b) w (up z) (down z) (down-pos z) e v))
+
+-- exact from 2 ^ -1074 to 2 ^ 1023
+pub pow2-value : (i : ℕ) → i < 2098 → HasValue (pow2Of binary64 (minus i 1074)) false (up (minus i 1074)) (down (minus i 1074))
+pow2-value i h =
+    let z = minus i 1074 in
+    let e : up z * 2 ^ 1074 ≡ 1 * 2 ^ i * down z = ap (λ (k : ℕ). k * 2 ^ 1074) (sym (one-mul (up z))) ∙ minus-val 1 i 1074 in
+    subst (λ (y : Float). HasValue y false (up z) (down z)) (sym (pow2Of-is z))
+    (round-exact binary64 false (up z) (down z) 1 i (down-pos z) (lit< tt) (lt-of-le-of-lt (le-of-eq (one-mul (2 ^ i))) (pow-lt h)) e)
 
 -- ---- n + b as the machine works it out
 abbrev back : ℤ → ℤ
@@ -201,7 +212,9 @@ placed : (b w : ℕ) (n : ℤ) → b < 2 ^ 63 → HasValue (ofBits binary64 b) f
 placed b w n l v e = subst (λ (z : ℕ). T (not (nanBits binary64 z)) × (ofBits binary64 z ≡ pow2Of binary64 n)) (sym (no-wrap b l)) (not-nan b w (2 ^ 1074) v, by-pattern n b w v e)
 
 pub middle-placed : (n : ℤ) (r : Middle n) → Placed (natAbs (back (back n +ℤ pos 1023)) * 2 ^ 52) n
-middle-placed n r = subst (λ (j : ℕ). Placed (j * 2 ^ 52) n) (sym (r .2 .2)) (placed (suc (r .0) * 2 ^ 52) (2 ^ 52 * 2 ^ r .0) n (field-lt (r .0) (r .1)) (normal-value (r .0) (r .1)) (r .3))
+middle-placed n r =
+    subst (λ (j : ℕ). Placed (j * 2 ^ 52) n) (sym (r .2 .2))
+    (subst (λ (b : ℕ). Placed b n) (add-zero (suc (r .0) * 2 ^ 52)) (placed (suc (r .0) * 2 ^ 52 + 0) (2 ^ 52 * 2 ^ r .0) n (field-lt (r .0) 0 (r .1) (pow-pos 52)) (normal-value (r .0) 0 (r .1) (pow-pos 52)) (r .3)))
 
 pub low-placed : (n : ℤ) (r : Low n) → Placed (1 * 2 ^ natAbs (back (back n +ℤ pos 1074))) n
 low-placed n r =

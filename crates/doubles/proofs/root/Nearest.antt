@@ -1,15 +1,14 @@
--- What the proof of `finish` cites: the value of the pattern that it makes, and that it is the root to the nearest. Assumes nothing.
-use mathlib.Core.Path.{_≡_, refl, sym, ap, _∙_, subst}
-use mathlib.Core.Logic.{_⊎_, inl, inr}
-use Prim.Native.Nat.{ℕ, zero, suc, _+_, _-_, _*_, _/_, _%_, _^_, _≤_, _<_, zero-le}
-use native.Mathlib.Nat.{le-trans, le-of-eq, le-of-suc-le-suc, lt-of-lt-of-le, lt-of-le-of-lt, le-of-lt, add-zero, mul-one, mul-comm, mul-assoc, mul-mul-mul-comm, mul-le-mul, mul-le-mul-right, mul-lt-mul-of-pos-right, mul-pos, mod-eq-of-lt}
+-- What the proofs of `rounded` and `is_rounded` cite: the value of the pattern K * 2 ^ 52 + g, and that it is the root to the nearest. Assumes nothing.
+use mathlib.Core.Path.{_≡_, sym, ap, _∙_, subst}
+use Prim.Native.Nat.{ℕ, zero, suc, _+_, _-_, _*_, _/_, _%_, _^_, _≤_, _<_}
+use native.Mathlib.Nat.{le-trans, le-of-eq, le-of-suc-le-suc, lt-of-lt-of-le, lt-of-le-of-lt, le-of-lt, add-zero, mul-mul-mul-comm, mul-le-mul-right, mul-lt-mul-of-pos-right, mul-pos, mod-eq-of-lt}
 use native.Mathlib.Omega.{arith}
 use mathlib.Core.Bool.{Bool, true, false, not, cond}
 use lib.Arith.{digits-div, digits-mod}
-use lib.Dec.{T, leb, ltb, eqb, lt→ltb, lit≤, lit<}
+use lib.Dec.{T, ltb, eqb, lt→ltb, lit≤, lit<}
 use lib.Pow.{pow-add, pow-pos, pow-mono, shl-lt, shl-exact}
 use lib.Bits.{bitAnd, and-mask}
-use lib.Ieee.{Float, nan, inf, fin, binary64, odd, units, fits, ofFields, ofBits, nanBits}
+use lib.Ieee.{Float, nan, inf, binary64, odd, units, fits, ofFields, ofBits, nanBits}
 use lib.Ieee.Fits.{odd-fits}
 use lib.Ieee.Bits.{ofBits-fits, cond-no}
 use lib.Ieee.Exact.{HasValue, odd-sign, units-val}
@@ -25,7 +24,7 @@ even-near h X r = let a = r .0 in let b = r .1 in omega arith
 odd-near : (h X : ℕ) → IsRoot (2 * X) (2 * h + 1) → ((2 * h + 1) * (2 * h + 1) < 2 * X) × (2 * X < (2 * (h + 1) + 1) * (2 * (h + 1) + 1))
 odd-near h X r = let a = r .0 in let b = r .1 in omega arith
 
-abbrev Near : ℕ → ℕ → Type 0
+abbrev pub Near : ℕ → ℕ → Type 0
 Near n g = ((2 * g - 1) * (2 * g - 1) < n) × (n < (2 * g + 1) * (2 * g + 1))
 
 near-root : (q X : ℕ) → IsRoot (2 * X) q → 0 < q → Near (2 * X) ((q + 1) / 2)
@@ -217,6 +216,28 @@ module _ (m e : ℕ) (ml : 2 ^ 52 ≤ m) (mh : m < 2 ^ 53) (el : 1022 ≤ e) (eh
       ring : (m B P : ℕ) → 4 * (m * (2 ^ 52 * B * (P * P))) ≡ m * B * 2 ^ 54 * (P * P)
       ring m B P = omega arith
 
+  -- the pattern of 53 digits g that are near
+  module _ (g : ℕ) (gl : 2 ^ 52 ≤ g) (gh : g < 2 ^ 53) (n : Near (M * 2 ^ 54) g) where
+    pub near-digits : NearRoot (m * 2 ^ e) (ofBits binary64 (K e * 2 ^ 52 + g))
+    near-digits =
+        let P = 2 ^ K e in
+        let L = pow-pos (K e) in
+        record {
+          g = g;
+          k = K e;
+          is = made (K e) g K-lt gl gh .0;
+          lo = scale-le (M * 2 ^ 54) (m * 2 ^ e) P L whole (2 ^ 53) (from M M-ge);
+          hi = scale-over (M * 2 ^ 54) (m * 2 ^ e) P L whole (2 ^ 54) (to M M-le);
+          under = scale-under (M * 2 ^ 54) (m * 2 ^ e) P L whole (2 * g - 1) (n .0);
+          over = scale-over (M * 2 ^ 54) (m * 2 ^ e) P L whole (2 * g + 1) (n .1);
+        }
+      where
+        from : (M : ℕ) → 2 ^ 52 ≤ M → 2 ^ 53 * 2 ^ 53 ≤ M * 2 ^ 54
+        from M h = omega arith
+
+        to : (M : ℕ) → M + 2 ≤ 2 ^ 54 → M * 2 ^ 54 < 2 ^ 54 * 2 ^ 54
+        to M h = omega arith
+
   module _ (q : ℕ) (r : IsRoot (m * 2 ^ bitAnd e 1 % 2 ^ 64 * 2 ^ 54) q) where
     r' : IsRoot (M * 2 ^ 54) q
     r' = subst (λ (z : ℕ). IsRoot (z * 2 ^ 54) q) shifted r
@@ -235,21 +256,5 @@ module _ (m e : ℕ) (ml : 2 ^ 52 ≤ m) (mh : m < 2 ^ 53) (el : 1022 ≤ e) (eh
 
     pub near : NearRoot (m * 2 ^ e) (ofBits binary64 (K e * 2 ^ 52 % 2 ^ 64 + (q + 1) / 2))
     near =
-        let P = 2 ^ K e in
-        let L = pow-pos (K e) in
-        let n = digits-near M q M-ge M-le r' in
-        record {
-          g = (q + 1) / 2;
-          k = K e;
-          is = ap (ofBits binary64) b-is ∙ made (K e) ((q + 1) / 2) K-lt (half-ge M q M-ge M-le r') (half-lt M q M-ge M-le r') .0;
-          lo = scale-le (M * 2 ^ 54) (m * 2 ^ e) P L whole (2 ^ 53) (from M M-ge);
-          hi = scale-over (M * 2 ^ 54) (m * 2 ^ e) P L whole (2 ^ 54) (to M M-le);
-          under = scale-under (M * 2 ^ 54) (m * 2 ^ e) P L whole (2 * ((q + 1) / 2) - 1) (n .0);
-          over = scale-over (M * 2 ^ 54) (m * 2 ^ e) P L whole (2 * ((q + 1) / 2) + 1) (n .1);
-        }
-      where
-        from : (M : ℕ) → 2 ^ 52 ≤ M → 2 ^ 53 * 2 ^ 53 ≤ M * 2 ^ 54
-        from M h = omega arith
-
-        to : (M : ℕ) → M + 2 ≤ 2 ^ 54 → M * 2 ^ 54 < 2 ^ 54 * 2 ^ 54
-        to M h = omega arith
+        subst (λ (z : ℕ). NearRoot (m * 2 ^ e) (ofBits binary64 z)) (sym b-is)
+        (near-digits ((q + 1) / 2) (half-ge M q M-ge M-le r') (half-lt M q M-ge M-le r') (digits-near M q M-ge M-le r'))

@@ -1,32 +1,32 @@
--- What the proof of `sqrt` cites: the digits and the exponent of an `f64` from its pattern, and that `finish` then gives `sqrtOf`. Assumes nothing.
+-- What the proofs of `sqrt` and `sqrt_positive` cite: the digits and the exponent of a double from its pattern, the tests on it, and that the near root is `sqrtOf`. Assumes nothing.
 use mathlib.Core.Path.{_≡_, refl, sym, ap, _∙_, subst}
 use mathlib.Core.Logic.{_⊎_, inl, inr}
-use Prim.Native.Nat.{ℕ, zero, suc, _+_, _-_, _*_, _/_, _%_, _^_, _≤_, _<_, zero-le}
-use native.Mathlib.Nat.{le-trans, le-of-eq, le-of-lt, lt-of-lt-of-le, lt-of-le-of-lt, lt-irrefl, lt-of-not-le, zero-lt-suc, zero-mul, mul-one, mul-comm, mul-assoc, mul-right-comm, mul-le-mul-right, mul-lt-mul-of-pos-right, mul-pos, mod-lt, mod-eq-of-lt, div-lt-iff-lt-mul, div-add-mod'}
+use Prim.Native.Nat.{ℕ, zero, suc, _+_, _-_, _*_, _/_, _%_, _^_, _≤_, _<_}
+use native.Mathlib.Nat.{le-trans, le-of-eq, lt-of-lt-of-le, lt-of-le-of-lt, lt-irrefl, lt-of-not-le, zero-lt-suc, zero-mul, mul-one, mul-assoc, mul-le-mul-right, mul-lt-mul-of-pos-right, mul-pos, mod-lt, mod-eq-of-lt}
 use native.Mathlib.Omega.{arith}
-use mathlib.Core.Bool.{Bool, true, false, not, _&&_, _||_, Bool·beq, cond, true≢false}
-use lib.IntN.{ℤ, pos, negsuc}
-use lib.Dec.{T, leb, ltb, eqb, nleb→lt, ltb→lt, nltb→le, eqb→eq, not-T, T-not, lit≤, lit<}
-use lib.Pow.{pow-add, pow-pos, pow-mono, shl-lt, shl-exact}
+use mathlib.Core.Bool.{Bool, true, false, not, _&&_, _||_, Bool·beq, cond}
+use lib.IntN.{ℤ}
+use lib.Dec.{T, leb, eqb, nleb→lt, nltb→le, eqb→eq, T-not, lit≤}
+use lib.Pow.{pow-add, pow-pos, pow-mono, shl-lt}
 use lib.Bits.{bitAnd, bitOr, and-mask, or-shifted-r}
 use lib.Count.{leadingZeros, leading-top}
-use lib.Ieee.{Float, nan, inf, fin, binary64, up, down, odd, units, fits, isNan, lt, eq, div, ofFields, ofBits, toBits}
+use lib.Ieee.{Float, nan, inf, fin, binary64, up, down, odd, fits, isNan, lt, eq, div, ofFields, ofBits, toBits}
 use lib.Ieee.Fits.{down-pos, up-pos, and-l, eq→eqb}
 use lib.Ieee.Bits.{ofBits-toBits, cond-no}
 use lib.Ieee.Exact.{HasValue, odd-sign}
-use Rattle.doubles.specs.Root.{sqrtOf, roundRoot}
-use Rattle.doubles.specs.Root.{NearRoot}
+use lib.Ieee.Scale.{finite}
+use Rattle.doubles.specs.Root.{sqrtOf, roundRoot, squareUnits, NearRoot}
 use Rattle.doubles.proofs.Magnitude.{mag, mag-of, mag-val, plain}
 use Rattle.doubles.proofs.power.Powers.{ofBits-is}
-use Rattle.doubles.proofs.whole.Floors.{zeroF, no, zero-is}
+use Rattle.doubles.proofs.whole.Floors.{zeroF, no}
 use Rattle.doubles.proofs.Roots.{root-near}
-use Rattle.doubles.proofs.Bound.{four, zero-mag, mag-pos}
+use Rattle.doubles.proofs.Bound.{four, zero-mag}
 
--- ---- what is near √(x in units, times 2 ^ 1074) is `sqrtOf x`
-near-at : (num den X v : ℕ) (r : Float) → 0 < den → num * 2 ^ 1074 ≡ X * den → X * 2 ^ 1074 ≡ v → NearRoot v r → r ≡ roundRoot binary64 num den
-near-at num den X v r D e w n =
+-- ---- what is near √x is `sqrtOf x`
+near-at : (num den X : ℕ) (r : Float) → 0 < den → num * 2 ^ 1074 ≡ X * den → NearRoot (X * 2 ^ 1074) r → r ≡ roundRoot binary64 num den
+near-at num den X r D e n =
     let l = 2 ^ 1074 in
-    let W : num * (2 * l * (2 * l)) ≡ 4 * v * den = four num den l X e ∙ ap (λ (z : ℕ). 4 * z * den) w in
+    let W : num * (2 * l * (2 * l)) ≡ 4 * (X * l) * den = four num den l X e in
     n .is
     ∙ sym (root-near binary64 num den (n .g) (n .k) D
     (inr (le-trans (mul-le-mul-right den (n .lo)) (le-of-eq (sym W))))
@@ -34,13 +34,22 @@ near-at num den X v r D e w n =
     (lt-of-lt-of-le (mul-lt-mul-of-pos-right (n .under) D) (le-of-eq (sym W)))
     (lt-of-le-of-lt (le-of-eq W) (mul-lt-mul-of-pos-right (n .over) D)))
 
-pub near-sqrt : (x : Float) (v : ℕ) (r : Float) → T (fits binary64 x) → T (plain x) → 1 ≤ mag binary64 x → mag binary64 x * 2 ^ 1074 ≡ v → NearRoot v r → r ≡ sqrtOf binary64 x
+pub near-sqrt : (x : Float) (r : Float) → T (fits binary64 x) → T (plain x) → 1 ≤ mag binary64 x → NearRoot (squareUnits x) r → r ≡ sqrtOf binary64 x
 unfolding sqrtOf
-near-sqrt nan v r h p o w n = absurd p
-near-sqrt (inf s) v r h p o w n = absurd p
-near-sqrt (fin true m e) v r h p o w n = absurd p
-near-sqrt (fin false zero e) v r h p o w n = absurd (lt-irrefl 0 (lt-of-lt-of-le o (le-of-eq (zero-mag (2 ^ 1074) (down e) (up e)))))
-near-sqrt (fin false (suc m) e) v r h p o w n = near-at (suc m * up e) (down e) (mag binary64 (fin false (suc m) e)) v r (down-pos e) (mag-val binary64 (fin false (suc m) e) h tt .1) w n
+near-sqrt nan r h p o n = absurd p
+near-sqrt (inf s) r h p o n = absurd p
+near-sqrt (fin true m e) r h p o n = absurd p
+near-sqrt (fin false zero e) r h p o n = absurd (lt-irrefl 0 (lt-of-lt-of-le o (le-of-eq (zero-mag (2 ^ 1074) (down e) (up e)))))
+near-sqrt (fin false (suc m) e) r h p o n = near-at (suc m * up e) (down e) (mag binary64 (fin false (suc m) e)) r (down-pos e) (mag-val binary64 (fin false (suc m) e) h tt .1) n
+
+-- x in units, and 2 ^ 1074 times that
+pub square-units : (x : Float) → mag binary64 x * 2 ^ 1074 ≡ squareUnits x
+square-units nan = refl
+square-units (inf s) = refl
+square-units (fin s m e) = refl
+
+pub near-by : (x : Float) (v : ℕ) (r : Float) → mag binary64 x * 2 ^ 1074 ≡ v → NearRoot v r → NearRoot (squareUnits x) r
+near-by x v r e n = subst (λ (z : ℕ). NearRoot z r) (sym e ∙ square-units x) n
 
 -- ---- the fields of a pattern whose value is finite and has no sign
 plain-sign : (x : Float) (s : Bool) (a c : ℕ) → T (plain x) → HasValue x s a c → s ≡ false
@@ -103,17 +112,20 @@ shape x h p =
     shape-read b x (subst (λ (y : Float). Read (leb (2 ^ 63) b) (b % 2 ^ 63 / 2 ^ 52) (b % 2 ^ 52) y) i (read (leb (2 ^ 63) b) (b % 2 ^ 63 / 2 ^ 52) (b % 2 ^ 52) (subst (λ (y : Float). T (plain y)) (sym i) p)))
 
 -- ---- a normal x: its digits under a leading one, and its field
-pub digits-are : (b : ℕ) → bitOr (bitAnd b (2 ^ 52 - 1)) (2 ^ 52) ≡ 2 ^ 52 + b % 2 ^ 52
+abbrev pub digits53 : ℕ → ℕ
+digits53 b = bitOr (bitAnd b (2 ^ 52 - 1)) (2 ^ 52)
+
+pub digits-are : (b : ℕ) → digits53 b ≡ 2 ^ 52 + b % 2 ^ 52
 digits-are b = ap (λ (k : ℕ). bitOr k (2 ^ 52)) (and-mask b 52) ∙ or-shifted-r 1 52 (b % 2 ^ 52) (mod-lt b (pow-pos 52))
 
--- what `finish` asks of a number of digits m and an exponent e
+-- what `rounded` asks of a number of digits m and an exponent e
 abbrev pub Asked : ℕ → ℕ → Type 0
 Asked m e = (2 ^ 52 ≤ m) × ((m < 2 ^ 53) × ((1022 ≤ e) × (e < 3120)))
 
 clash : (a : ℕ) → a ≡ 0 → 0 < a → ⊥
 clash a e h = omega arith
 
-pub normal : (b X : ℕ) → Shape b X → 0 < b / 2 ^ 52 → Asked (bitOr (bitAnd b (2 ^ 52 - 1)) (2 ^ 52)) (b / 2 ^ 52 + 1073) × (X * 2 ^ 1074 ≡ bitOr (bitAnd b (2 ^ 52 - 1)) (2 ^ 52) * 2 ^ (b / 2 ^ 52 + 1073))
+pub normal : (b X : ℕ) → Shape b X → 0 < b / 2 ^ 52 → Asked (digits53 b) (b / 2 ^ 52 + 1073) × (X * 2 ^ 1074 ≡ digits53 b * 2 ^ (b / 2 ^ 52 + 1073))
 normal b X s h = rw (digits-are b) (go (s .1))
   where
     fine : (t f j : ℕ) → t < 2 ^ 52 → f ≡ suc j → j < 2046 → Asked (2 ^ 52 + t) (f + 1073)
@@ -185,20 +197,32 @@ pub nan-is : div binary64 (ofBits binary64 0) (ofBits binary64 0) ≡ nan
 unfolding div ofBits
 nan-is = refl
 
--- above zero and below the infinity
-pub is-plain : (x : Float) → T (lt zeroF x) → T (lt x (inf false)) → T (plain x)
+pub over-no-nan : (x : Float) → T (lt zeroF x) → T (not (isNan x))
+unfolding lt isNan
+over-no-nan nan p = absurd p
+over-no-nan (inf s) p = tt
+over-no-nan (fin s m e) p = tt
+
+-- above zero and finite, or below the infinity
+pub is-plain : (x : Float) → T (lt zeroF x) → T (finite x) → T (plain x)
 unfolding lt
 is-plain nan p q = absurd p
-is-plain (inf true) p q = absurd p
-is-plain (inf false) p q = absurd q
+is-plain (inf s) p q = absurd q
 is-plain (fin true m e) p q = absurd p
 is-plain (fin false m e) p q = tt
 
-pub plain-no-nan : (x : Float) → T (plain x) → T (not (isNan x))
-unfolding isNan
-plain-no-nan nan p = absurd p
-plain-no-nan (inf s) p = tt
-plain-no-nan (fin s m e) p = tt
+pub under-inf : (x : Float) → T (lt zeroF x) → T (lt x (inf false)) → T (finite x)
+unfolding lt
+under-inf nan p q = absurd p
+under-inf (inf true) p q = absurd p
+under-inf (inf false) p q = absurd q
+under-inf (fin s m e) p q = tt
+
+pub not-under-inf : (x : Float) → T (finite x) → T (not (lt x (inf false))) → ⊥
+unfolding lt
+not-under-inf nan t q = absurd t
+not-under-inf (inf s) t q = absurd t
+not-under-inf (fin s m e) t q = absurd q
 
 pub at-inf : (x : Float) → T (lt zeroF x) → T (not (lt x (inf false))) → x ≡ sqrtOf binary64 x
 unfolding lt sqrtOf

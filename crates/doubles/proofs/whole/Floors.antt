@@ -1,4 +1,4 @@
--- What the proof of `floor` cites: the floor of an `f64` below 2 ^ 53 in size from its whole part, and that from there up it is whole. Assumes nothing.
+-- What the proof of `floor_any` cites: the floor of an `f64` below 2 ^ 53 in size from its whole part, and that from there up it is whole. Assumes nothing.
 use mathlib.Core.Path.{_≡_, refl, sym, ap, _∙_, subst}
 use Prim.Native.Nat.{ℕ, zero, suc, _+_, _-_, _*_, _/_, _%_, _^_, _≤_, _<_, min, zero-le}
 use native.Mathlib.Nat.{le-trans, le-of-eq, le-of-lt, le-antisymm, le-refl, lt-of-lt-of-le, lt-of-le-of-lt, lt-irrefl, zero-lt-suc, zero-mul, mul-one, one-mul, add-zero, add-mul, mul-comm, mul-right-comm, mul-pos, mul-lt-mul-of-pos-right, mul-le-mul-right, lt-of-mul-lt-mul-right, le-of-mul-le-mul-right, div-one, div-lt-iff-lt-mul, div-mul-le-self, lt-div-mul-add, div-eq-of-lt-le, le-mul-of-pos-right}
@@ -13,13 +13,14 @@ use lib.Ieee.Fits.{down-pos, up-pos}
 use lib.Ieee.Exact.{HasValue}
 use lib.Ieee.Back.{round-whole}
 use lib.Ieee.Scale.{finite}
+use Rattle.doubles.specs.Arithmetic as arithmetic
 use Rattle.doubles.specs.Floor.{floorOf}
 use Rattle.doubles.proofs.Magnitude.{small-enough, round-self, same-value}
 use Rattle.doubles.proofs.Signs.{round-zero}
 use Rattle.doubles.proofs.Interpolation.{round-neg}
 
 abbrev pub zeroF : Float
-zeroF = fin false 0 (pos 0)
+zeroF = arithmetic.zero
 
 -- 2 ^ 53
 abbrev pub B : Float

@@ -1,21 +1,8 @@
 //! Writes the inputs and the answers that crates/doubles_vectors replays: `doubles_vectors FOLDER`.
 //! floor and sqrt are the machine's, approx_exp2 and approx_log2 the original's with the stand-ins,
 //! the others the stand-ins of document 01.
-use oracle::{extent::open, standins};
+use oracle::{extent::open, random::Random, standins};
 use std::{collections::BTreeSet, env, fmt::Write, fs, path::Path};
-
-/// SplitMix64, so that the list is the same on every machine.
-struct Random(u64);
-
-impl Random {
-    fn next(&mut self) -> u64 {
-        self.0 = self.0.wrapping_add(0x9e37_79b9_7f4a_7c15);
-        let mut z = self.0;
-        z = (z ^ (z >> 30)).wrapping_mul(0xbf58_476d_1ce4_e5b9);
-        z = (z ^ (z >> 27)).wrapping_mul(0x94d0_49bb_1331_11eb);
-        z ^ (z >> 31)
-    }
-}
 
 fn pattern(x: f64) -> u64 {
     if x.is_nan() {

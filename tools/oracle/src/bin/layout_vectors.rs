@@ -1,21 +1,7 @@
 //! Writes the inputs and the answers that crates/layout_vectors replays: `layout_vectors FOLDER`.
 //! The original has no counterpart of questions 1 to 6, so the answers are written from document 01.
+use oracle::random::Random;
 use std::{collections::BTreeMap, env, fmt::Write, fs, path::Path};
-
-struct Random(u64);
-
-impl Random {
-    fn next(&mut self) -> u64 {
-        self.0 = self.0.wrapping_add(0x9e37_79b9_7f4a_7c15);
-        let mut z = self.0;
-        z = (z ^ (z >> 30)).wrapping_mul(0xbf58_476d_1ce4_e5b9);
-        z = (z ^ (z >> 27)).wrapping_mul(0x94d0_49bb_1331_11eb);
-        z ^ (z >> 31)
-    }
-    fn below(&mut self, n: u64) -> u64 {
-        self.next() % n
-    }
-}
 
 fn packed(name: &str) -> u64 {
     name.bytes().rev().fold(0, |n, b| n << 8 | u64::from(b))

@@ -1,5 +1,5 @@
 -- `doubles::power::pow2` meets its contract: each need is a fact of `proofs/power/Powers.antt`. Assumes nothing.
-use mathlib.Core.Path.{_≡_, sym, subst}
+use mathlib.Core.Path.{sym, subst}
 use Prim.Native.Nat.{ℕ, _<_}
 use native.Mathlib.Nat.{lt-of-lt-of-le}
 use lib.Dec.{lit≤}
@@ -8,11 +8,25 @@ use Rattle.doubles.proofs.power.Powers.{Middle, Low, middle, low, middl
 use Rattle.doubles.proofs.power.pow2.Statement.{statement}
 use Rattle.doubles.proofs.power.pow2.Tie as tie
 
+returns : tie.Need-returns
+unfolding ofBits
+returns c = top (c .before .args .n) (c .before .fits .n) (c .if1 .taken)
+
+returns-4 : tie.Need-returns-4
+unfolding ofBits
+returns-4 c = bottom (c .before .before .before .args .n) (c .before .before .before .fits .n) (c .if3 .left)
+
 mid : (c : tie.Then2) → Middle (c .before .before .args .n)
 mid c = middle (c .before .before .args .n) (c .before .before .fits .n) (c .before .if1 .left) (c .if2 .taken)
 
 sub : (c : tie.Then3) → Low (c .before .before .before .args .n)
 sub c = low (c .before .before .before .args .n) (c .before .before .before .fits .n) (c .before .if2 .left) (c .if3 .taken)
+
+returns-2 : tie.Need-returns-2
+returns-2 c = middle-placed (c .before .before .args .n) (mid c) .1
+
+returns-3 : tie.Need-returns-3
+returns-3 c = low-placed (c .before .before .before .args .n) (sub c) .1
 
 float-from-bits-result : tie.Need-float-from-bits-result
 unfolding nanBits
@@ -38,20 +52,6 @@ shl-result c = subst (λ (k : ℕ). k < 64) (sym (sub c .2 .2)) (lt-of-lt-of-le 
 
 float-from-bits-result-3 : tie.Need-float-from-bits-result-3
 float-from-bits-result-3 c = low-placed (c .before .before .before .args .n) (sub c) .0
-
-returns : tie.Need-returns
-unfolding ofBits
-returns c = top (c .before .args .n) (c .before .fits .n) (c .if1 .taken)
-
-returns-2 : tie.Need-returns-2
-returns-2 c = middle-placed (c .before .before .args .n) (mid c) .1
-
-returns-3 : tie.Need-returns-3
-returns-3 c = low-placed (c .before .before .before .args .n) (sub c) .1
-
-returns-4 : tie.Need-returns-4
-unfolding ofBits
-returns-4 c = bottom (c .before .before .before .args .n) (c .before .before .before .fits .n) (c .if3 .left)
 
 pub pow2-spec : {M : Type 1} → statement M
 pow2-spec =

@@ -1,7 +1,5 @@
-use mathlib.Core.Path.{_≡_, refl, sym, ap, _∙_, subst}
-use Prim.Native.Nat.{ℕ, suc, _+_, _-_, _*_, _/_, _^_, _≤_, _<_, zero-le}
+use Prim.Native.Nat.{_+_, _-_, _*_, _/_, _^_, _≤_, zero-le}
 use native.Mathlib.Omega.{arith}
-use borrow.Author.Needs.{needs}
 use lib.Dec.{lit<}
 use lib.Bits.{mask-lt}
 use Rattle.doubles.proofs.root.DigitLoop.{So, so-start, so-room, so-next, so-zeros, so-half, so-whole}

@@ -1,4 +1,4 @@
--- `doubles::finish` meets its contract: each need is a fact of `proofs/root/Nearest.antt`. Assumes nothing.
+-- `doubles::root::rounded` meets its contract: each need is a fact of `proofs/root/Nearest.antt`. Assumes nothing.
 use borrow.Author.Needs.{needs}
 use native.Mathlib.Omega.{arith}
 use Rattle.doubles.proofs.root.Nearest.{shift-lt, root-asks, q-lt, no-nan, near}

@@ -1,0 +1,135 @@
+-- The laws of doubles that other crates cite, in one place. `clear x`: x is NaN, or its sign is clear, so it is no -0. `notNeg x`: x is NaN, or not below zero. Assumes nothing.
+use mathlib.Core.Path.{_≡_, subst}
+use Prim.Native.Nat.{_+_, _-_, _*_, _/_}
+use mathlib.Core.Bool.{true, false, not}
+use mathlib.Core.List.{List, List·Memᴰ}
+use lib.Dec.{T}
+use lib.IntN.{pos}
+use lib.Ieee.{Float, nan, inf, fin, binary64, up, down, lt, le, fits}
+use lib.Ieee.Fits as fit
+use lib.Ieee.Scale.{finite}
+use Rattle.doubles.specs.Arithmetic.{_⊕_, _⊖_, _⊗_, _⊘_, zero, one}
+use Rattle.doubles.specs.Floor.{floorOf}
+use Rattle.doubles.specs.Root.{sqrtOf}
+use Rattle.doubles.specs.Circular.{H, sineOf, cosineOf}
+use Rattle.doubles.specs.Exp2.{exp2Of}
+use Rattle.doubles.specs.Norm.{sumSquares, Bounded}
+use Rattle.doubles.proofs.Signs as signs
+use Rattle.doubles.proofs.Signs.{clear, notNeg}
+use Rattle.doubles.proofs.Interpolation as interpolation
+use Rattle.doubles.proofs.AddZero as addZero
+use Rattle.doubles.proofs.Bound as bound
+use Rattle.doubles.proofs.circular.Bounds as circular
+use Rattle.doubles.proofs.exp2.Sign as exponential
+
+-- ---- results are doubles
+
+-- a sum, a difference, a product, a quotient
+pub add-fits : (x y : Float) → T (fits binary64 (x ⊕ y))
+add-fits x y = fit.add-fits binary64 x y
+
+pub sub-fits : (x y : Float) → T (fits binary64 (x ⊖ y))
+sub-fits x y = fit.sub-fits binary64 x y
+
+pub mul-fits : (x y : Float) → T (fits binary64 (x ⊗ y))
+mul-fits x y = fit.mul-fits binary64 x y
+
+pub div-fits : (x y : Float) → T (fits binary64 (x ⊘ y))
+div-fits x y = fit.div-fits binary64 x y
+
+-- the root of a double
+pub sqrt-fits : (x : Float) → T (fits binary64 x) → T (fits binary64 (sqrtOf binary64 x))
+sqrt-fits x h = bound.sqrt-fits binary64 x h
+
+-- a floor
+pub floor-fits : (x : Float) → T (fits binary64 (floorOf binary64 x))
+unfolding floorOf
+floor-fits nan = fit.nan-fits binary64
+floor-fits (inf s) = fit.inf-fits binary64 s
+floor-fits (fin false m e) = fit.round-fits binary64 false (m * up e / down e) 1
+floor-fits (fin true m e) = fit.round-fits binary64 true ((m * up e + (down e - 1)) / down e) 1
+
+-- a sine, a cosine
+pub sine-fits : (a : Float) → T (fits binary64 (sineOf a))
+sine-fits a = circular.sine-fits a
+
+pub cosine-fits : (a : Float) → T (fits binary64 (cosineOf a))
+cosine-fits a = circular.cosine-fits a
+
+-- ---- sign
+
+-- sums, products, quotients and roots of clear values are clear
+pub add-clear : (x y : Float) → T (clear x) → T (clear y) → T (clear (x ⊕ y))
+add-clear x y p q = signs.add-clear binary64 x y p q
+
+pub mul-clear : (x y : Float) → T (clear x) → T (clear y) → T (clear (x ⊗ y))
+mul-clear x y p q = signs.mul-clear binary64 x y p q
+
+pub div-clear : (x y : Float) → T (clear x) → T (clear y) → T (clear (x ⊘ y))
+div-clear x y p q = signs.div-clear binary64 x y p q
+
+pub sqrt-clear : (x : Float) → T (clear x) → T (clear (sqrtOf binary64 x))
+sqrt-clear x p = signs.sqrt-clear binary64 x p
+
+-- a square is clear, whatever is squared
+pub square-clear : (x : Float) → T (clear (x ⊗ x))
+square-clear x = signs.square-clear binary64 x
+
+-- a + t (b - a) is clear for clear a, b and t from 0 to 1
+pub lerp-clear : (a b t : Float) → T (fits binary64 a) → T (fits binary64 t) → T (clear a) → T (clear b) → T (le zero t) → T (le t one) → T (clear (a ⊕ t ⊗ (b ⊖ a)))
+lerp-clear a b t h k p q lo hi = interpolation.lerp-clear binary64 a b t h k p q lo hi
+
+-- sums and products of values that are not negative are not negative
+pub add-notNeg : (x y : Float) → T (notNeg x) → T (notNeg y) → T (notNeg (x ⊕ y))
+add-notNeg x y p q = signs.add-notNeg binary64 x y p q
+
+pub mul-notNeg : (x y : Float) → T (notNeg x) → T (notNeg y) → T (notNeg (x ⊗ y))
+mul-notNeg x y p q = signs.mul-notNeg binary64 x y p q
+
+-- a clear value is not negative
+pub clear-notNeg : (x : Float) → T (clear x) → T (notNeg x)
+clear-notNeg x p = signs.clear-notNeg x p
+
+-- not negative, by the tests of IEEE 754
+pub notNeg-of-not-lt : (x : Float) → T (not (lt x zero)) → T (notNeg x)
+notNeg-of-not-lt x h = signs.notNeg-of x h
+
+pub not-lt-of-notNeg : (x : Float) → T (notNeg x) → T (not (lt x zero))
+not-lt-of-notNeg x p = signs.notNeg-says x p
+
+pub notNeg-of-le : (x : Float) → T (le zero x) → T (notNeg x)
+notNeg-of-le x h = interpolation.notNeg-le x h
+
+-- ---- zero
+
+-- adding +0 changes nothing but -0
+pub add-zero : (x : Float) → T (fits binary64 x) → (x ≡ fin true 0 (pos 0) → ⊥) → x ⊕ zero ≡ x
+add-zero x h n = addZero.add-zero binary64 x h n
+
+-- and so nothing of a clear value
+pub add-zero-clear : (x : Float) → T (fits binary64 x) → T (clear x) → x ⊕ zero ≡ x
+add-zero-clear x h p = add-zero x h (λ (e : x ≡ fin true 0 (pos 0)). subst (λ (z : Float). T (clear z)) e p)
+
+-- ---- sine and cosine
+
+-- of a from 0 to H they are finite and from 0 to 1
+pub sine-range : (a : Float) → T (fits binary64 a) → T (le zero a) → T (le a H) → T (finite (sineOf a)) × T (le zero (sineOf a)) × T (le (sineOf a) one)
+sine-range a h lo hi = circular.circular-range a h lo hi .0
+
+pub cosine-range : (a : Float) → T (fits binary64 a) → T (le zero a) → T (le a H) → T (finite (cosineOf a)) × T (le zero (cosineOf a)) × T (le (cosineOf a) one)
+cosine-range a h lo hi = circular.circular-range a h lo hi .1
+
+-- ---- `approx_exp2`
+
+-- it is never negative, and always finite
+pub exp2-clear : (v : Float) → T (fits binary64 v) → T (clear (exp2Of v))
+exp2-clear v h = exponential.exp2-clear v h
+
+pub exp2-finite : (v : Float) → T (finite (exp2Of v))
+exp2-finite v = exponential.exp2-finite v
+
+-- ---- normalising
+
+-- with a finite sum of squares above 0, a value that is not negative, over the root of the sum, is from 0 to 5/4
+pub norm-bound : (v : List Float) (x : Float) → T (finite (sumSquares v)) → T (lt zero (sumSquares v)) → List·Memᴰ x v → T (fits binary64 x) → T (notNeg x) → Bounded (x ⊘ sqrtOf binary64 (sumSquares v))
+norm-bound v x t l i h p = bound.norm-bound binary64 v x t l i h p

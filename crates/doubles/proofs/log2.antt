@@ -1,0 +1,3 @@
+pub mod Mantissa
+pub mod Differences
+pub mod Cases

@@ -1,0 +1,79 @@
+// The loops that tools/bench times: each function of `doubles` over a slice, exported.
+ghost use mathlib.Core.Path.{_≡_};
+ghost use lib.Ieee.{binary64};
+ghost use Rattle.doubles.specs.Arithmetic.{zero};
+ghost use Rattle.doubles.specs.Floor.{floorOf};
+ghost use Rattle.doubles.specs.Root.{sqrtOf};
+ghost use Rattle.doubles.specs.Exp2.{exp2Of};
+ghost use Rattle.doubles.specs.Log2.{log2Of};
+ghost use Rattle.doubles_bench.specs.Sums.{sumOf, rootChain};
+
+// The sum of the floors of v.
+#[no_mangle]
+pub extern "C" fn rug_sum_floor(v: &[f64]) -> f64
+    ensures { λ r. ⌜ r ≡ sumOf (floorOf binary64) zero (now (v .entry)) ⌝ }
+{
+    let mut sum = 0.0;
+    let mut i = 0usize;
+    while i < v.len() {
+        sum = sum + doubles::floor(v[i]);
+        i += 1;
+    }
+    sum
+}
+
+// The sum of the roots of v.
+#[no_mangle]
+pub extern "C" fn rug_sum_sqrt(v: &[f64]) -> f64
+    ensures { λ r. ⌜ r ≡ sumOf (sqrtOf binary64) zero (now (v .entry)) ⌝ }
+{
+    let mut sum = 0.0;
+    let mut i = 0usize;
+    while i < v.len() {
+        sum = sum + doubles::sqrt(v[i]);
+        i += 1;
+    }
+    sum
+}
+
+// The sum of approx_exp2 over v.
+#[no_mangle]
+pub extern "C" fn rug_sum_exp2(v: &[f64]) -> f64
+    ensures { λ r. ⌜ r ≡ sumOf exp2Of zero (now (v .entry)) ⌝ }
+{
+    let mut sum = 0.0;
+    let mut i = 0usize;
+    while i < v.len() {
+        sum = sum + doubles::approx_exp2(v[i]);
+        i += 1;
+    }
+    sum
+}
+
+// The sum of approx_log2 over v.
+#[no_mangle]
+pub extern "C" fn rug_sum_log2(v: &[f64]) -> f64
+    ensures { λ r. ⌜ r ≡ sumOf log2Of zero (now (v .entry)) ⌝ }
+{
+    let mut sum = 0.0;
+    let mut i = 0usize;
+    while i < v.len() {
+        sum = sum + doubles::approx_log2(v[i]);
+        i += 1;
+    }
+    sum
+}
+
+// A dependent chain: each root is of the next number of v and the root before.
+#[no_mangle]
+pub extern "C" fn rug_chain_sqrt(v: &[f64]) -> f64
+    ensures { λ r. ⌜ r ≡ rootChain zero (now (v .entry)) ⌝ }
+{
+    let mut y = 0.0;
+    let mut i = 0usize;
+    while i < v.len() {
+        y = doubles::sqrt(v[i] + y);
+        i += 1;
+    }
+    y
+}

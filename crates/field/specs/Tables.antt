@@ -1,0 +1,31 @@
+-- The numbers of the tables, by axis, channel name, centre and radius. Definitions only.
+use Prim.Native.Nat.{ℕ, zero, suc}
+use mathlib.Core.Bool.{cond}
+use mathlib.Core.List.{List}
+use lib.Ieee.{Float, le}
+use Rattle.doubles.specs.Arithmetic.{_⊕_, _⊗_, one}
+use Rattle.doubles.specs.Arithmetic.{zero as zero64}
+use Rattle.layout.specs.Topology.{TopologyLayer}
+use Rattle.field.specs.Kernel.{kernelOf, shapedOf, exponentOf}
+use Rattle.field.specs.Knots.{Axis, isZ, sampleCount, sample, centreKnot, radiusKnot}
+use Rattle.field.specs.Responses.{responseOn}
+
+-- the shaped product of kernel k and response r added to a sum; a sample whose kernel is not above 0 adds nothing
+abbrev pub addSample : Float → Float → Float → Float → Float
+addSample k r e sum = cond (le k zero64) sum (sum ⊕ shapedOf (k ⊗ r) e)
+
+-- over the first samples in rising order, from 0
+unfoldable pub sampledOver : (ℕ → Float) → (ℕ → Float) → Float → ℕ → Float
+unfolding shapedOf
+sampledOver kernel response e zero = zero64
+sampledOver kernel response e (suc s) = addSample (kernel s) (response s) e (sampledOver kernel response e s)
+
+-- `sampled_response` of a channel, for centre knot i and radius knot j
+unfoldable pub sampledOn : Axis → List TopologyLayer → ℕ → ℕ → ℕ → Float
+unfolding sampledOver kernelOf exponentOf responseOn
+sampledOn a t i j name =
+    sampledOver
+    (λ (s : ℕ). kernelOf (sample a s) (centreKnot a i) (radiusKnot j) (isZ a))
+    (λ (s : ℕ). responseOn a t (sample a s) name)
+    (exponentOf (radiusKnot j))
+    (sampleCount a)

@@ -1,0 +1,100 @@
+// The tables: responses summed over the samples, for each centre, radius and channel.
+ghost use mathlib.Core.Path.{_≡_};
+use crate::kernel::compact_quartic_kernel;
+use crate::kernel::shaped;
+use crate::kernel::shaping_exponent;
+use crate::knots::radius_knot;
+use crate::knots::step;
+
+// The kernel at each sample.
+fn kernels(out: &mut [f64], samples: usize, center: f64, radius: f64, z_axis: bool) {
+    let mut s = 0usize;
+    while s < samples {
+        out[s] = compact_quartic_kernel(step(s, samples - 1), center, radius, z_axis);
+        s += 1;
+    }
+}
+
+// The number of channel k: over the samples in rising order, the shaped products of kernel and
+// response; a sample whose kernel is not above 0 adds nothing.
+fn sampled(kernels: &[f64], responses: &[f64], samples: usize, k: usize, exponent: f64) -> f64 {
+    let mut sum = 0.0;
+    let mut s = 0usize;
+    while s < samples {
+        let kernel = kernels[s];
+        if !(kernel <= 0.0) {
+            sum = sum + shaped(kernel * responses[s * 24 + k], exponent);
+        }
+        s += 1;
+    }
+    sum
+}
+
+// The numbers of all n channels, from `from` on.
+fn sampled_response(
+    store: &mut [f64],
+    from: usize,
+    n: usize,
+    kernels: &[f64],
+    responses: &[f64],
+    samples: usize,
+    exponent: f64,
+) {
+    let mut k = 0usize;
+    while k < n {
+        store[from + k] = sampled(kernels, responses, samples, k, exponent);
+        k += 1;
+    }
+}
+
+// One centre and radius of X and of Y, which share the kernel.
+fn knot_xy(store: &mut [f64], base: usize, n: usize, x: &[f64], y: &[f64], knot: usize) {
+    let mut kernel = [0.0f64; 20];
+    let radius = radius_knot(knot % 20);
+    let exponent = shaping_exponent(radius);
+    kernels(&mut kernel, 20, step(knot / 20, 34), radius, false);
+    sampled_response(store, base + knot * n, n, &kernel, x, 20, exponent);
+    sampled_response(store, base + (700 + knot) * n, n, &kernel, y, 20, exponent);
+}
+
+// The tables of X and Y: 35 centres of 20 radii.
+pub fn table_xy(store: &mut [f64], base: usize, n: usize, x: &[f64], y: &[f64]) {
+    let mut knot = 0usize;
+    while knot < 700 {
+        knot_xy(store, base, n, x, y, knot);
+        knot += 1;
+    }
+}
+
+fn knot_z(store: &mut [f64], base: usize, n: usize, z: &[f64], knot: usize) {
+    let mut kernel = [0.0f64; 20];
+    let radius = radius_knot(knot % 20);
+    kernels(&mut kernel, 8, step(knot / 20, 3), radius, true);
+    sampled_response(
+        store,
+        base + (1400 + knot) * n,
+        n,
+        &kernel,
+        z,
+        8,
+        shaping_exponent(radius),
+    );
+}
+
+// The table of Z: 4 centres of 20 radii.
+pub fn table_z(store: &mut [f64], base: usize, n: usize, z: &[f64]) {
+    let mut knot = 0usize;
+    while knot < 80 {
+        knot_z(store, base, n, z, knot);
+        knot += 1;
+    }
+}
+
+// An end response: the n responses at one sample.
+pub fn end_response(store: &mut [f64], from: usize, n: usize, responses: &[f64], sample: usize) {
+    let mut k = 0usize;
+    while k < n {
+        store[from + k] = responses[sample * 24 + k];
+        k += 1;
+    }
+}
