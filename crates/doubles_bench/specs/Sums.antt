@@ -4,13 +4,15 @@ use lib.Ieee.{Float, binary64}
 use Rattle.doubles.specs.Arithmetic.{_⊕_}
 use Rattle.doubles.specs.Root.{sqrtOf}
 
--- s and f of each number of a list, added up from the left
-unfoldable pub sumOf : (Float → Float) → Float → List Float → Float
-sumOf f s [] = s
-sumOf f s (x ∷ xs) = sumOf f (s ⊕ f x) xs
+-- a list folded from the left
+unfoldable pub folded : (Float → Float → Float) → Float → List Float → Float
+folded g s [] = s
+folded g s (x ∷ xs) = folded g (g s x) xs
 
--- each root is of the next number and the root before
-unfoldable pub rootChain : Float → List Float → Float
-unfolding sqrtOf
-rootChain y [] = y
-rootChain y (x ∷ xs) = rootChain (sqrtOf binary64 (x ⊕ y)) xs
+-- f of each number, added up
+abbrev pub added : (Float → Float) → Float → Float → Float
+added f s x = s ⊕ f x
+
+-- the root of the next number and the root before
+abbrev pub rooted : Float → Float → Float
+rooted y x = sqrtOf binary64 (x ⊕ y)

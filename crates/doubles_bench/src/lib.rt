@@ -6,12 +6,12 @@ ghost use Rattle.doubles.specs.Floor.{floorOf};
 ghost use Rattle.doubles.specs.Root.{sqrtOf};
 ghost use Rattle.doubles.specs.Exp2.{exp2Of};
 ghost use Rattle.doubles.specs.Log2.{log2Of};
-ghost use Rattle.doubles_bench.specs.Sums.{sumOf, rootChain};
+ghost use Rattle.doubles_bench.specs.Sums.{folded, added, rooted};
 
 // The sum of the floors of v.
 #[no_mangle]
 pub extern "C" fn rug_sum_floor(v: &[f64]) -> f64
-    ensures { λ r. ⌜ r ≡ sumOf (floorOf binary64) zero (now (v .entry)) ⌝ }
+    ensures { λ r. ⌜ r ≡ folded (added (floorOf binary64)) zero (now (v .entry)) ⌝ }
 {
     let mut sum = 0.0;
     let mut i = 0usize;
@@ -25,7 +25,7 @@ pub extern "C" fn rug_sum_floor(v: &[f64]) -> f64
 // The sum of the roots of v.
 #[no_mangle]
 pub extern "C" fn rug_sum_sqrt(v: &[f64]) -> f64
-    ensures { λ r. ⌜ r ≡ sumOf (sqrtOf binary64) zero (now (v .entry)) ⌝ }
+    ensures { λ r. ⌜ r ≡ folded (added (sqrtOf binary64)) zero (now (v .entry)) ⌝ }
 {
     let mut sum = 0.0;
     let mut i = 0usize;
@@ -39,7 +39,7 @@ pub extern "C" fn rug_sum_sqrt(v: &[f64]) -> f64
 // The sum of approx_exp2 over v.
 #[no_mangle]
 pub extern "C" fn rug_sum_exp2(v: &[f64]) -> f64
-    ensures { λ r. ⌜ r ≡ sumOf exp2Of zero (now (v .entry)) ⌝ }
+    ensures { λ r. ⌜ r ≡ folded (added exp2Of) zero (now (v .entry)) ⌝ }
 {
     let mut sum = 0.0;
     let mut i = 0usize;
@@ -53,7 +53,7 @@ pub extern "C" fn rug_sum_exp2(v: &[f64]) -> f64
 // The sum of approx_log2 over v.
 #[no_mangle]
 pub extern "C" fn rug_sum_log2(v: &[f64]) -> f64
-    ensures { λ r. ⌜ r ≡ sumOf log2Of zero (now (v .entry)) ⌝ }
+    ensures { λ r. ⌜ r ≡ folded (added log2Of) zero (now (v .entry)) ⌝ }
 {
     let mut sum = 0.0;
     let mut i = 0usize;
@@ -67,7 +67,7 @@ pub extern "C" fn rug_sum_log2(v: &[f64]) -> f64
 // A dependent chain: each root is of the next number of v and the root before.
 #[no_mangle]
 pub extern "C" fn rug_chain_sqrt(v: &[f64]) -> f64
-    ensures { λ r. ⌜ r ≡ rootChain zero (now (v .entry)) ⌝ }
+    ensures { λ r. ⌜ r ≡ folded rooted zero (now (v .entry)) ⌝ }
 {
     let mut y = 0.0;
     let mut i = 0usize;

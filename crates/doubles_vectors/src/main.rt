@@ -1,27 +1,12 @@
 // Replays the Rust's answers. Each line of the input is a function's letter, a space and 16
 // hexadecimal digits, a double's bit pattern or an integer; the program writes the same letter and
-// the result. The letters: f floor, r sqrt, p pow2, q pow2_i32, g floor_log2, s sine, c cosine,
+// the result. The letters: f floor, r sqrt, p pow2, q pow2_i32, g 2 to the power of floor_log2, s sine, c cosine,
 // e approx_exp2, l approx_log2, i is_finite, b is_between 0 and 1, k clamp to 0 and 1.
 use libc::STDIN_FILENO;
 use libc::STDOUT_FILENO;
 
 // A letter, a space, 16 digits and a line feed.
 const LINE: usize = 19;
-
-fn digit(c: u8) -> u64 {
-    let d = c as u64;
-    if d < 58 { d % 16 } else { (d + 9) % 16 }
-}
-
-fn number(line: &[u8; 19]) -> u64 {
-    let mut n = 0u64;
-    let mut i = 2usize;
-    while i < 18 {
-        n = n % 0x1000_0000_0000_0000 * 16 + digit(line[i]);
-        i += 1;
-    }
-    n
-}
 
 fn truth(b: bool) -> u64 {
     if b { 1 } else { 0 }
@@ -32,7 +17,7 @@ fn signed(n: u64) -> i64 {
     if n < 0x8000_0000_0000_0000 {
         n as i64
     } else {
-        -1 - ((0xffff_ffff_ffff_ffff - n) as i64)
+        !((0xffff_ffff_ffff_ffff - n) as i64)
     }
 }
 
@@ -41,15 +26,7 @@ fn signed32(n: u64) -> i32 {
     if low < 0x8000_0000 {
         low as i32
     } else {
-        -1 - ((0xffff_ffff - low) as i32)
-    }
-}
-
-fn unsigned(n: i64) -> u64 {
-    if n >= 0 {
-        n as u64
-    } else {
-        0xffff_ffff_ffff_ffff - ((-1 - n) as u64)
+        !((0xffff_ffff - low) as i32)
     }
 }
 
@@ -72,7 +49,7 @@ fn answer(letter: u8, bits: u64) -> u64 {
     match letter {
         b'p' => doubles::bits_of(doubles::pow2(signed(bits))),
         b'q' => doubles::bits_of(doubles::pow2_i32(signed32(bits))),
-        b'g' => unsigned(doubles::floor_log2(doubles::of_bits(bits))),
+        b'g' => doubles::bits_of(doubles::pow2(doubles::floor_log2(doubles::of_bits(bits)))),
         b'i' => truth(doubles::is_finite(doubles::of_bits(bits))),
         b'b' => truth(doubles::is_between(0.0, 1.0, doubles::of_bits(bits))),
         _ => of_double(letter, doubles::of_bits(bits)),
@@ -85,8 +62,13 @@ fn step() -> bool {
     if io::read_full(STDIN_FILENO, &mut line) < LINE {
         return false;
     }
-    io::write_all(STDOUT_FILENO, &line[..2]);
-    io::print_hex(STDOUT_FILENO, answer(line[0], number(&line)), 16);
+    let letter = line[0];
+    put(letter, answer(letter, replay::hex(&line, 2)))
+}
+
+fn put(letter: u8, bits: u64) -> bool {
+    io::write_all(STDOUT_FILENO, &[letter, b' ']);
+    io::print_hex(STDOUT_FILENO, bits, 16);
     io::write_all(STDOUT_FILENO, b"\n")
 }
 

@@ -3,7 +3,7 @@ use Prim.Native.Nat.{ℕ, _+_, _-_, _*_, _/_, _%_}
 use mathlib.Core.Bool.{Bool, true, _&&_, _||_, not, cond}
 use mathlib.Core.List.{List, [], _∷_}
 use lib.Dec.{leb, ltb, eqb}
-use lib.Ieee.{Float}
+use lib.Ieee.{Float, nan}
 use lib.ListN.{length, getD}
 use Rattle.doubles.specs.Arithmetic.{zero, one}
 use Rattle.layout.specs.declared.Layout.{Layout}
@@ -15,21 +15,23 @@ use Rattle.field.specs.Responses.{responseOn}
 use Rattle.field.specs.Tables.{sampledOn}
 
 -- A place is rows of n numbers, one for each active channel: X (700 rows: centre, radius), Y (700), Z (80), then the end responses X0 X1 Y0 Y1 Z0 Z1.
-unfoldable pub endNumber : List TopologyLayer → ℕ → ℕ → Float
+unfoldable pub endNumbers : List TopologyLayer → ℕ → List Float
 unfolding responseOn
-endNumber t 0 name = responseOn X t zero name
-endNumber t 1 name = responseOn X t one name
-endNumber t 2 name = responseOn Y t zero name
-endNumber t 3 name = responseOn Y t one name
-endNumber t 4 name = responseOn Z t zero name
-endNumber t e name = responseOn Z t one name
+endNumbers t name =
+    responseOn X t zero name
+    ∷ responseOn X t one name
+    ∷ responseOn Y t zero name
+    ∷ responseOn Y t one name
+    ∷ responseOn Z t zero name
+    ∷ responseOn Z t one name
+    ∷ []
 
 unfoldable pub rowNumber : List TopologyLayer → ℕ → ℕ → Float
-unfolding sampledOn endNumber
+unfolding sampledOn endNumbers
 rowNumber t r name =
     cond (ltb r 700) (sampledOn X t (r / 20) (r % 20) name)
     (cond (ltb r 1400) (sampledOn Y t ((r - 700) / 20) ((r - 700) % 20) name)
-    (cond (ltb r 1480) (sampledOn Z t ((r - 1400) / 20) ((r - 1400) % 20) name) (endNumber t (r - 1480) name)))
+    (cond (ltb r 1480) (sampledOn Z t ((r - 1400) / 20) ((r - 1400) % 20) name) (getD (endNumbers t name) (r - 1480) nan)))
 
 -- the rows of Z, Z0 and Z1
 abbrev pub rowOfZ : ℕ → Bool
@@ -52,6 +54,10 @@ patchedFrom i w f (x ∷ xs) = cond (w i) (f i) x ∷ patchedFrom (i + 1) w f xs
 unfoldable pub patched : (ℕ → Bool) → (ℕ → Float) → List Float → List Float
 unfolding patchedFrom
 patched w f xs = patchedFrom 0 w f xs
+
+-- from a up to b
+abbrev pub within : ℕ → ℕ → ℕ → Bool
+within a b i = leb a i && ltb i b
 
 -- place p begins at 35,664 × p
 abbrev pub placeStart : ℕ → ℕ

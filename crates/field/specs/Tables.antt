@@ -1,13 +1,15 @@
 -- The numbers of the tables, by axis, channel name, centre and radius. Definitions only.
-use Prim.Native.Nat.{ℕ, zero, suc}
+use Prim.Native.Nat.{ℕ, zero, suc, _+_, _-_, _*_, _/_, _%_}
 use mathlib.Core.Bool.{cond}
 use mathlib.Core.List.{List}
-use lib.Ieee.{Float, le}
-use Rattle.doubles.specs.Arithmetic.{_⊕_, _⊗_, one}
+use lib.Dec.{ltb}
+use lib.Ieee.{Float, nan, le}
+use lib.ListN.{getD}
+use Rattle.doubles.specs.Arithmetic.{_⊕_, _⊗_}
 use Rattle.doubles.specs.Arithmetic.{zero as zero64}
 use Rattle.layout.specs.Topology.{TopologyLayer}
 use Rattle.field.specs.Kernel.{kernelOf, shapedOf, exponentOf}
-use Rattle.field.specs.Knots.{Axis, isZ, sampleCount, sample, centreKnot, radiusKnot}
+use Rattle.field.specs.Knots.{Axis, X, Y, isZ, sampleCount, sample, centreKnot, radiusKnot}
 use Rattle.field.specs.Responses.{responseOn}
 
 -- the shaped product of kernel k and response r added to a sum; a sample whose kernel is not above 0 adds nothing
@@ -29,3 +31,20 @@ sampledOn a t i j name =
     (λ (s : ℕ). responseOn a t (sample a s) name)
     (exponentOf (radiusKnot j))
     (sampleCount a)
+
+-- ---- what the code works out from the responses at the samples, 24 numbers to a sample
+
+-- the number of channel k at a knot: centre knot / 20 and radius knot % 20
+unfoldable pub knotNumber : Axis → List Float → ℕ → ℕ → Float
+unfolding sampledOver kernelOf exponentOf
+knotNumber a responses knot k =
+    sampledOver
+    (λ (s : ℕ). kernelOf (sample a s) (centreKnot a (knot / 20)) (radiusKnot (knot % 20)) (isZ a))
+    (λ (s : ℕ). getD responses (s * 24 + k) nan)
+    (exponentOf (radiusKnot (knot % 20)))
+    (sampleCount a)
+
+-- the tables of X and Y, row after row
+unfoldable pub numberXY : List Float → List Float → ℕ → ℕ → Float
+unfolding knotNumber
+numberXY x y r k = cond (ltb r 700) (knotNumber X x r k) (knotNumber Y y (r - 700) k)

@@ -1,5 +1,6 @@
 // The kernel and the shaping.
 ghost use mathlib.Core.Path.{_≡_};
+ghost use Rattle.field.specs.Kernel.{kernelOf, quarticOf, positive, shapedOf, exponentOf};
 use doubles::approx_exp2;
 use doubles::approx_log2;
 use doubles::cosine;
@@ -11,38 +12,40 @@ const KERNEL_COEFFICIENT: f64 = 16.8172606265625;
 
 const HEIGHT_SCALE: f64 = 1.365909936;
 
-fn magnitude(x: f64) -> f64 {
-    if x < 0.0 { -x } else { x }
-}
-
-// The value of the kernel before the height's cosine.
-fn quartic(distance: f64, radius: f64) -> f64 {
-    let ratio = distance / radius;
-    let value = approx_exp2(-KERNEL_COEFFICIENT * ratio * ratio * ratio * ratio);
-    if is_finite(value) & (value > 0.0) {
-        value
-    } else {
-        0.0
-    }
-}
-
 // The compact quartic kernel at u, about a centre and with a radius; on Z with the height's cosine.
-pub fn compact_quartic_kernel(u: f64, center: f64, radius: f64, z_axis: bool) -> f64
-    ensures { λ r. ⌜ r ≡ kernelOf u center radius z_axis ⌝ }
+pub fn compact_quartic_kernel(u: f64, center: f64, radius: f64, z: bool) -> f64
+    ensures { λ r. ⌜ r ≡ kernelOf u center radius z ⌝ }
 {
     if radius < ZERO_FIELD_THRESHOLD {
         return 0.0;
     }
     let distance = (u - center) / 4.0;
-    if magnitude(distance) > radius {
+    if (distance > radius) | (-distance > radius) {
         return 0.0;
     }
-    let value = quartic(distance, radius);
-    if z_axis & (value > 0.0) {
+    let value = quartic(distance / radius);
+    if !is_positive(value) {
+        return 0.0;
+    }
+    if z {
         value * cosine(HEIGHT_SCALE * u)
     } else {
         value
     }
+}
+
+// 2 ^ (-16.8172606265625 * ratio ^ 4) by the approximation.
+fn quartic(ratio: f64) -> f64
+    ensures { λ r. ⌜ r ≡ quarticOf ratio ⌝ }
+{
+    approx_exp2(-KERNEL_COEFFICIENT * ratio * ratio * ratio * ratio)
+}
+
+// Whether x is finite and above 0.
+fn is_positive(x: f64) -> bool
+    ensures { λ r. ⌜ r ≡ positive x ⌝ }
+{
+    is_finite(x) & (x > 0.0)
 }
 
 // value ^ exponent by the approximations; 0 where value, or the result, is not above 0 or not finite.
@@ -51,7 +54,7 @@ pub fn shaped(value: f64, exponent: f64) -> f64
 {
     if value > 0.0 {
         let result = approx_exp2(exponent * approx_log2(value));
-        if is_finite(result) & (result > 0.0) {
+        if is_positive(result) {
             return result;
         }
     }

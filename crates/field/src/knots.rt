@@ -1,6 +1,7 @@
 // The knots and samples of the tables.
 ghost use mathlib.Core.Path.{_≡_};
 ghost use Prim.Native.Nat.{_≤_};
+ghost use Rattle.field.specs.Knots.{steps, radiusKnot};
 
 // i / n: the samples i / 19 on X and Y and i / 7 on Z, and the centre knots i / 34 and i / 3.
 pub fn step(i: usize, n: usize) -> f64

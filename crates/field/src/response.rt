@@ -6,18 +6,13 @@
 // has the anchors from parts[i] up to parts[i + 1], group g the coordinates from groups[g] up to
 // groups[g + 1], and anchor a is that of the active channel at[a].
 ghost use mathlib.Core.Path.{_≡_};
+use crate::Pick;
 use crate::knots::step;
 use doubles::cosine;
 use doubles::floor;
 use doubles::sine;
 
 const PI: f64 = 3.141592653589793;
-
-// Which coordinates of a list answer: one with weight 1, or one and the next with two weights.
-pub enum Pick {
-    One(usize),
-    Two(usize, f64, f64),
-}
 
 // The two weights at t between coordinate i and the next.
 fn pair(i: usize, t: f64) -> Pick {

@@ -1,5 +1,11 @@
 // The tables: responses summed over the samples, for each centre, radius and channel.
 ghost use mathlib.Core.Path.{_≡_};
+ghost use Prim.Native.Nat.{ℕ, _+_, _-_, _*_, _/_, _%_, _≤_, _<_};
+ghost use lib.Ieee.{nan};
+ghost use lib.ListN.{length, getD};
+ghost use Rattle.field.specs.Knots.{Z};
+ghost use Rattle.field.specs.Tables.{knotNumber, numberXY};
+ghost use Rattle.field.specs.Place.{patched, within};
 use crate::kernel::compact_quartic_kernel;
 use crate::kernel::shaped;
 use crate::kernel::shaping_exponent;
@@ -7,10 +13,10 @@ use crate::knots::radius_knot;
 use crate::knots::step;
 
 // The kernel at each sample.
-fn kernels(out: &mut [f64], samples: usize, center: f64, radius: f64, z_axis: bool) {
+fn kernels(out: &mut [f64], samples: usize, center: f64, radius: f64, z: bool) {
     let mut s = 0usize;
     while s < samples {
-        out[s] = compact_quartic_kernel(step(s, samples - 1), center, radius, z_axis);
+        out[s] = compact_quartic_kernel(step(s, samples - 1), center, radius, z);
         s += 1;
     }
 }
@@ -58,7 +64,11 @@ fn knot_xy(store: &mut [f64], base: usize, n: usize, x: &[f64], y: &[f64], knot:
 }
 
 // The tables of X and Y: 35 centres of 20 radii.
-pub fn table_xy(store: &mut [f64], base: usize, n: usize, x: &[f64], y: &[f64]) {
+pub fn table_xy(store: &mut [f64], base: usize, n: usize, x: &[f64], y: &[f64])
+    requires { ⌜ (base + 1400 * n ≤ length (now store)) × (1 ≤ n) × (n ≤ 24) ⌝ }
+    requires { ⌜ (480 ≤ length (now x)) × (480 ≤ length (now y)) ⌝ }
+    ensures { λ _. ⌜ now (store .exit) ≡ patched (within base (base + 1400 * n)) (λ (i : ℕ). numberXY (now (x .entry)) (now (y .entry)) ((i - base) / n) ((i - base) % n)) (now (store .entry)) ⌝ }
+{
     let mut knot = 0usize;
     while knot < 700 {
         knot_xy(store, base, n, x, y, knot);
@@ -82,7 +92,11 @@ fn knot_z(store: &mut [f64], base: usize, n: usize, z: &[f64], knot: usize) {
 }
 
 // The table of Z: 4 centres of 20 radii.
-pub fn table_z(store: &mut [f64], base: usize, n: usize, z: &[f64]) {
+pub fn table_z(store: &mut [f64], base: usize, n: usize, z: &[f64])
+    requires { ⌜ (base + 1480 * n ≤ length (now store)) × (1 ≤ n) × (n ≤ 24) ⌝ }
+    requires { ⌜ 480 ≤ length (now z) ⌝ }
+    ensures { λ _. ⌜ now (store .exit) ≡ patched (within (base + 1400 * n) (base + 1480 * n)) (λ (i : ℕ). knotNumber Z (now (z .entry)) ((i - base) / n - 1400) ((i - base) % n)) (now (store .entry)) ⌝ }
+{
     let mut knot = 0usize;
     while knot < 80 {
         knot_z(store, base, n, z, knot);
@@ -91,7 +105,10 @@ pub fn table_z(store: &mut [f64], base: usize, n: usize, z: &[f64]) {
 }
 
 // An end response: the n responses at one sample.
-pub fn end_response(store: &mut [f64], from: usize, n: usize, responses: &[f64], sample: usize) {
+pub fn end_response(store: &mut [f64], from: usize, n: usize, responses: &[f64], sample: usize)
+    requires { ⌜ (from + n ≤ length (now store)) × (n ≤ 24) × (sample < 20) × (480 ≤ length (now responses)) ⌝ }
+    ensures { λ _. ⌜ now (store .exit) ≡ patched (within from (from + n)) (λ (i : ℕ). getD (now (responses .entry)) (sample * 24 + (i - from)) nan) (now (store .entry)) ⌝ }
+{
     let mut k = 0usize;
     while k < n {
         store[from + k] = responses[sample * 24 + k];

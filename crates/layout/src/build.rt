@@ -93,11 +93,11 @@ impl Layout {
         ensures { λ r. ⌜ r ≡ withAnchor self a ⌝ }
     {
         let mut l = self;
-        let depth = l.depth;
-        if (depth < 1) | (4 < depth) {
+        let layers = l.depth;
+        if (layers < 1) | (4 < layers) {
             return l;
         }
-        if l.layers[depth - 1].count < 1 {
+        if l.layers[layers - 1].count < 1 {
             return l;
         }
         let row = row_total(l) - 1;

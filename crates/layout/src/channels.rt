@@ -28,16 +28,16 @@ pub fn active_count(l: Layout) -> usize
     ensures { λ r. ⌜ r ≡ activeCount l ⌝ }
 {
     let used = covered(l.used);
-    let mut n = 0usize;
+    let mut count = 0usize;
     let mut i = 0usize;
     while i < used {
-        let c = l.channels[i];
-        if is_active(c) {
-            n += 1;
+        let channel = l.channels[i];
+        if is_active(channel) {
+            count += 1;
         }
         i += 1;
     }
-    n
+    count
 }
 
 // Writes the names of the active channels, in list order, to the front of out, and answers how many
@@ -46,13 +46,14 @@ pub fn active_names(l: Layout, out: &mut [u64; 24]) -> usize
     ensures { λ r. ⌜ r ≡ activeCount l ⌝ }
     ensures { λ r. ⌜ now (out .exit) ≡ activeNames l ++ drop (activeCount l) (now (out .entry)) ⌝ }
 {
+    let names: &mut [u64] = out;
     let used = covered(l.used);
     let mut n = 0usize;
     let mut i = 0usize;
     while i < used {
         let c = l.channels[i];
         if is_active(c) {
-            out[n] = c.name;
+            names[n] = c.name;
             n += 1;
         }
         i += 1;

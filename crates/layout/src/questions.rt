@@ -7,8 +7,8 @@ ghost use lib.ListN.{length, take};
 ghost use Rattle.lists.specs.Lists.{all, elem};
 ghost use Rattle.layout.specs.Name.{validName};
 ghost use Rattle.layout.specs.Channels.{channelName};
-ghost use Rattle.layout.specs.Topology.{usedLayers, layerCount, rowCount};
-ghost use Rattle.layout.specs.Questions.{firstNo, layoutQuestions, question1, question2, question4, question5, question6, countedTo, partsOrdered};
+ghost use Rattle.layout.specs.Topology.{usedLayers, usedRows, layerCount, rowCount, layerZ, rowY, anchorX, rowStarts, anchorStarts};
+ghost use Rattle.layout.specs.Questions.{firstNo, layoutQuestions, question1, question4, question5, question6, countedTo, ordered, partsOrdered};
 use crate::Layout;
 use crate::channels::active_count;
 use crate::channels::active_names;
@@ -29,9 +29,10 @@ use crate::walk::row_ys;
 fn channel_names(l: Layout, out: &mut [u64; 24])
     ensures { λ _. ⌜ now (out .exit) ≡ map channelName (l .channels) ⌝ }
 {
+    let names: &mut [u64] = out;
     let mut i = 0usize;
     while i < 24 {
-        out[i] = l.channels[i].name;
+        names[i] = l.channels[i].name;
         i += 1;
     }
 }
@@ -130,20 +131,28 @@ fn parts_ordered(v: &[f64], starts: &[usize], n: usize) -> bool
 
 // z over layers, y within a layer and x within a row are finite, from -1 to 1 and strictly ascending.
 fn places_ordered(l: Layout) -> bool
-    requires { ⌜ (T (question2 l)) × (T (question4 l)) ⌝ }
+    requires { ⌜ l .depth ≤ 4 ⌝ }
     ensures { λ r. ⌜ r ≡ question5 l ⌝ }
 {
     layers_ordered(l) & rows_ordered(l) & anchors_ordered(l)
 }
 
-fn layers_ordered(l: Layout) -> bool {
+// z over layers.
+fn layers_ordered(l: Layout) -> bool
+    requires { ⌜ l .depth ≤ 4 ⌝ }
+    ensures { λ r. ⌜ r ≡ ordered (take (l .depth) (map layerZ (l .layers))) ⌝ }
+{
     let mut zs = [0.0f64; 4];
     layer_zs(l, &mut zs);
     let depth = l.depth;
     is_ordered(&zs, 0, depth)
 }
 
-fn rows_ordered(l: Layout) -> bool {
+// y within each layer.
+fn rows_ordered(l: Layout) -> bool
+    requires { ⌜ l .depth ≤ 4 ⌝ }
+    ensures { λ r. ⌜ r ≡ partsOrdered (map rowY (l .rows)) (take (l .depth + 1) (rowStarts l)) ⌝ }
+{
     let mut ys = [0.0f64; 24];
     row_ys(l, &mut ys);
     let mut starts = [0usize; 5];
@@ -152,7 +161,10 @@ fn rows_ordered(l: Layout) -> bool {
     parts_ordered(&ys, &starts, depth)
 }
 
-fn anchors_ordered(l: Layout) -> bool {
+// x within each row.
+fn anchors_ordered(l: Layout) -> bool
+    ensures { λ r. ⌜ r ≡ partsOrdered (map anchorX (l .anchors)) (take (length (usedRows l) + 1) (anchorStarts l)) ⌝ }
+{
     let mut xs = [0.0f64; 24];
     anchor_xs(l, &mut xs);
     let mut starts = [0usize; 25];

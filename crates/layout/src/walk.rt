@@ -14,9 +14,10 @@ use crate::numbers::place_of;
 pub fn layer_zs(l: Layout, out: &mut [f64; 4])
     ensures { λ _. ⌜ now (out .exit) ≡ map layerZ (l .layers) ⌝ }
 {
+    let zs: &mut [f64] = out;
     let mut i = 0usize;
     while i < 4 {
-        out[i] = l.layers[i].z;
+        zs[i] = l.layers[i].z;
         i += 1;
     }
 }
@@ -25,9 +26,10 @@ pub fn layer_zs(l: Layout, out: &mut [f64; 4])
 pub fn row_ys(l: Layout, out: &mut [f64; 24])
     ensures { λ _. ⌜ now (out .exit) ≡ map rowY (l .rows) ⌝ }
 {
+    let ys: &mut [f64] = out;
     let mut i = 0usize;
     while i < 24 {
-        out[i] = l.rows[i].y;
+        ys[i] = l.rows[i].y;
         i += 1;
     }
 }
@@ -36,9 +38,10 @@ pub fn row_ys(l: Layout, out: &mut [f64; 24])
 pub fn anchor_xs(l: Layout, out: &mut [f64; 24])
     ensures { λ _. ⌜ now (out .exit) ≡ map anchorX (l .anchors) ⌝ }
 {
+    let xs: &mut [f64] = out;
     let mut i = 0usize;
     while i < 24 {
-        out[i] = l.anchors[i].x;
+        xs[i] = l.anchors[i].x;
         i += 1;
     }
 }
@@ -47,9 +50,10 @@ pub fn anchor_xs(l: Layout, out: &mut [f64; 24])
 pub fn anchor_names(l: Layout, out: &mut [u64; 24])
     ensures { λ _. ⌜ now (out .exit) ≡ map anchorName (l .anchors) ⌝ }
 {
+    let names: &mut [u64] = out;
     let mut i = 0usize;
     while i < 24 {
-        out[i] = l.anchors[i].name;
+        names[i] = l.anchors[i].name;
         i += 1;
     }
 }
@@ -66,12 +70,13 @@ fn next_start(s: usize, c: usize) -> usize
 pub fn row_starts(l: Layout, out: &mut [usize; 5])
     ensures { λ _. ⌜ now (out .exit) ≡ rowStarts l ⌝ }
 {
+    let starts: &mut [usize] = out;
     let mut s = 0usize;
-    out[0] = 0;
+    starts[0] = 0;
     let mut i = 0usize;
     while i < 4 {
         s = next_start(s, l.layers[i].count);
-        out[i + 1] = s;
+        starts[i + 1] = s;
         i += 1;
     }
 }
@@ -80,12 +85,13 @@ pub fn row_starts(l: Layout, out: &mut [usize; 5])
 pub fn anchor_starts(l: Layout, out: &mut [usize; 25])
     ensures { λ _. ⌜ now (out .exit) ≡ anchorStarts l ⌝ }
 {
+    let starts: &mut [usize] = out;
     let mut s = 0usize;
-    out[0] = 0;
+    starts[0] = 0;
     let mut i = 0usize;
     while i < 24 {
         s = next_start(s, l.rows[i].count);
-        out[i + 1] = s;
+        starts[i + 1] = s;
         i += 1;
     }
 }
@@ -119,11 +125,12 @@ pub fn anchor_total(l: Layout) -> usize
 pub fn anchor_places(l: Layout, out: &mut [usize; 24])
     ensures { λ _. ⌜ now (out .exit) ≡ map (anchorPlace l) (l .anchors) ⌝ }
 {
+    let places: &mut [usize] = out;
     let mut names = [0u64; 24];
     let n = active_names(l, &mut names);
     let mut i = 0usize;
     while i < 24 {
-        out[i] = place_of(&names, n, l.anchors[i].name);
+        places[i] = place_of(&names, n, l.anchors[i].name);
         i += 1;
     }
 }
@@ -132,14 +139,14 @@ pub fn anchor_places(l: Layout, out: &mut [usize; 24])
 pub fn layer_starts(l: Layout, out: &mut [usize; 5])
     ensures { λ _. ⌜ now (out .exit) ≡ layerStarts l ⌝ }
 {
+    let starts: &mut [usize] = out;
     let mut rows = [0usize; 5];
     row_starts(l, &mut rows);
     let mut anchors = [0usize; 25];
     anchor_starts(l, &mut anchors);
     let mut i = 0usize;
     while i < 5 {
-        let r = rows[i];
-        out[i] = anchors[r];
+        starts[i] = anchors[rows[i]];
         i += 1;
     }
 }

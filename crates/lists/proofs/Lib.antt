@@ -3,3 +3,5 @@ pub mod Tests
 pub mod Filter
 pub mod Same
 pub mod Chunks
+pub mod Fill
+pub mod Takes

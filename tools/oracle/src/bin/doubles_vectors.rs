@@ -22,7 +22,7 @@ const FUNCTIONS: [(char, fn(u64) -> u64); 12] = [
     ('r', |b| pattern(f64::from_bits(b).sqrt())),
     ('p', |b| pattern(standins::pow2(b as i64))),
     ('q', |b| pattern(standins::pow2(i64::from(b as u32 as i32)))),
-    ('g', |b| standins::floor_log2(f64::from_bits(b)) as u64),
+    ('g', |b| pattern(standins::pow2(standins::floor_log2(f64::from_bits(b))))),
     ('s', |b| pattern(standins::sine(f64::from_bits(b)))),
     ('c', |b| pattern(standins::cosine(f64::from_bits(b)))),
     ('e', |b| pattern(open::exp2(f64::from_bits(b)))),

@@ -1,0 +1,25 @@
+-- `doubles_vectors::main` is safe and ends: a turn for each line, at most a million. Assumes nothing.
+use native.Mathlib.Omega.{arith}
+use borrow.Author.Needs.{needs}
+use Rattle.doubles_vectors.proofs.main.Statement.{statement}
+use Rattle.doubles_vectors.proofs.main.Tie as tie
+
+abbrev Inv-loop : tie.InvT-loop
+Inv-loop left₀ left = Unit {0}
+
+abbrev μ-loop : tie.MeasureT-loop
+μ-loop left₀ left = left
+
+pub main-spec : {M : Type 1} → statement M
+main-spec =
+    tie.close
+    (tie.spec
+    Inv-loop
+    μ-loop
+    (λ c. tt)
+    (λ c κs. tt)
+    (λ c. tt)
+    (λ c. search needs)
+    (λ c. omega arith)
+    (λ c. tt)
+    (λ c. tt))

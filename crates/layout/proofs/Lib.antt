@@ -1,0 +1,15 @@
+pub mod Coordinates
+pub mod QuestionsAccepted
+pub mod QuestionsCounted
+pub mod QuestionsFirst
+pub mod QuestionsLoops
+pub mod QuestionsNamed
+pub mod QuestionsOrdered
+pub mod SameLaws
+pub mod SameLists
+pub mod SameNumbers
+pub mod Sizes
+pub mod TopologyFlat
+pub mod TopologyLists
+pub mod TopologyRanges
+pub mod TopologyStarts

@@ -1,0 +1,32 @@
+-- The names stand at the front of the array.
+use mathlib.Core.Path.{_≡_, refl, sym, ap, _∙_}
+use native.Mathlib.Omega.{arith}
+use borrow.Author.Needs.{needs}
+use lib.ListN.{length, drop, replicate}
+use lib.Seq.{take-append-seam}
+use Rattle.lists.proofs.Loops.{long}
+use Rattle.layout.specs.Channels.{activeNames, activeCount}
+use Rattle.layout.proofs.channels.Names.{count-most, names-length}
+use Rattle.layout.proofs.channels.active_place.Statement.{statement}
+use Rattle.layout.proofs.channels.active_place.Tie as tie
+
+channels-long : (c : tie.Start) → length (c .args .l .channels) ≡ 24
+channels-long c = search (needs, long)
+
+names-long : (c : tie.After-active-names) → length (c .active-names .last .1 .0) ≡ 24
+names-long c = ap length (c .active-names .ensures .1) ∙ names-length (c .before .before .args .l) (replicate 24 0) (channels-long (c .before .before)) refl
+
+aggregate : tie.Need-slice-aggregate-place-of
+aggregate c = sym (names-long (c .before))
+
+requires : tie.Need-place-of-requires
+requires c κs = omega (arith, names-long (c .before), count-most (c .before .before .before .args .l) (channels-long (c .before .before .before)), c .before .active-names .ensures .0)
+
+returns : tie.Need-returns
+returns c =
+    let a = c .before .before in
+    let l = a .before .before .args .l in
+    c .place-of .ensures ∙ rw (a .active-names .ensures .0, a .active-names .ensures .1, take-append-seam (activeNames l) (drop (activeCount l) (replicate 24 0)))
+
+pub active-place-spec : {M : Type 1} → statement M
+active-place-spec = tie.close (tie.spec (λ c κs. search needs) aggregate requires returns)

@@ -1,0 +1,20 @@
+-- Hexadecimal digits. Definitions only.
+use Prim.Native.Nat.{ℕ, _+_, _*_, _%_, _^_}
+use mathlib.Core.Bool.{cond}
+use mathlib.Core.List.{List, [], _∷_}
+use lib.Dec.{ltb, leb}
+use lib.ListN.{length}
+use lib.Seq.{slice}
+
+-- the value of a digit, of either case
+abbrev pub digitOf : ℕ → ℕ
+digitOf c = cond (ltb c 58) (c % 16) ((c + 9) % 16)
+
+-- n and then the digits of a text; the lowest 64 bits of it
+abbrev pub hexFrom : ℕ → List ℕ → ℕ
+hexFrom n [] = n
+hexFrom n (c ∷ cs) = hexFrom (n % 2 ^ 60 * 16 + digitOf c) cs
+
+-- the 16 digits from a place on; 0 where the text has no 16 from there on
+abbrev pub hexOf : List ℕ → ℕ → ℕ
+hexOf text from = cond (leb (from + 16) (length text)) (hexFrom 0 (slice from (from + 16) text)) 0

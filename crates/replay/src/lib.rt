@@ -1,0 +1,31 @@
+// What the programs that replay answers share: numbers read from a line of text.
+ghost use mathlib.Core.Path.{_≡_};
+ghost use Rattle.replay.specs.Hex.{digitOf, hexOf};
+
+// The value of a hexadecimal digit, of either case.
+pub fn digit(c: u8) -> u64
+    ensures { λ r. ⌜ r ≡ digitOf c ⌝ }
+{
+    let d = c as u64;
+    if d < 58 { d % 16 } else { (d + 9) % 16 }
+}
+
+// The number that the 16 hexadecimal digits from `from` on stand for; 0 where the text has no 16 from there on.
+pub fn hex(text: &[u8], from: usize) -> u64
+    ensures { λ r. ⌜ r ≡ hexOf (now (text .entry)) from ⌝ }
+{
+    if text.len() < 16 {
+        return 0;
+    }
+    if text.len() - 16 < from {
+        return 0;
+    }
+    let end = from + 16;
+    let mut n = 0u64;
+    let mut i = from;
+    while i < end {
+        n = n % 0x1000_0000_0000_0000 * 16 + digit(text[i]);
+        i += 1;
+    }
+    n
+}
