@@ -2,6 +2,7 @@
 // the store.
 mod kernel;
 mod knots;
+mod place;
 mod radius;
 mod response;
 mod table;
@@ -9,6 +10,7 @@ mod table;
 pub use kernel::compact_quartic_kernel;
 pub use kernel::shaped;
 pub use kernel::shaping_exponent;
+pub use place::fill_place;
 pub use radius::extent_radius;
 pub use radius::read_extent;
 

@@ -21,23 +21,9 @@ pub struct State {
     pub name: u64,
 }
 
-fn digit(c: u8) -> u64 {
-    let d = c as u64;
-    if d < 58 { d % 16 } else { (d + 9) % 16 }
-}
-
-fn value(line: &[u8; 21]) -> u64 {
-    let mut n = 0u64;
-    let mut i = 4usize;
-    while i < 20 {
-        n = n % 0x1000_0000_0000_0000 * 16 + digit(line[i]);
-        i += 1;
-    }
-    n
-}
-
+// The three digits in front.
 fn command(line: &[u8; 21]) -> u64 {
-    digit(line[0]) * 100 + digit(line[1]) * 10 + digit(line[2])
+    replay::digit(line[0]) * 100 + replay::digit(line[1]) * 10 + replay::digit(line[2])
 }
 
 fn add(l: Layout, k: u64, name: u64, v: u64) -> Layout {
@@ -147,7 +133,7 @@ fn main() {
             return;
         }
         let k = command(&line);
-        let v = value(&line);
+        let v = replay::hex(&line, 4);
         if k < 910 {
             s = done(s, k, v);
         } else {

@@ -24,24 +24,9 @@ pub struct State {
     pub name: u64,
 }
 
-fn digit(c: u8) -> u64 {
-    let d = c as u64;
-    if d < 58 { d % 16 } else { (d + 9) % 16 }
-}
-
-fn value(line: &[u8; 21]) -> u64 {
-    let mut n = 0u64;
-    let mut i = 4usize;
-    while i < 20 {
-        n = n % 0x1000_0000_0000_0000 * 16 + digit(line[i]);
-        i += 1;
-    }
-    n
-}
-
-fn command(line: &[u8; 21]) -> usize {
-    let n = digit(line[0]) * 100 + digit(line[1]) * 10 + digit(line[2]);
-    n as usize
+// The three digits in front.
+fn command(line: &[u8; 21]) -> u64 {
+    replay::digit(line[0]) * 100 + replay::digit(line[1]) * 10 + replay::digit(line[2])
 }
 
 fn set_channel(l: Layout, i: usize, v: u64) -> Layout {
@@ -119,7 +104,7 @@ fn set(l: Layout, i: usize, v: u64) -> Layout {
     set_anchor(l, i - 106, v)
 }
 
-fn add(l: Layout, k: usize, name: u64, v: u64) -> Layout {
+fn add(l: Layout, k: u64, name: u64, v: u64) -> Layout {
     match k {
         901 => l.with_channel(Channel {
             name: v,
@@ -155,13 +140,13 @@ fn compare(a: Layout, b: Layout) {
     }
 }
 
-fn done(s: State, k: usize, v: u64) -> State {
+fn done(s: State, k: u64, v: u64) -> State {
     let l = s.now;
     let aside = s.aside;
     let name = s.name;
     if k < 154 {
         return State {
-            now: set(l, k, v),
+            now: set(l, k as usize, v),
             aside: aside,
             name: name,
         };
@@ -194,7 +179,7 @@ fn done(s: State, k: usize, v: u64) -> State {
     }
 }
 
-fn tell(s: State, k: usize, v: u64) {
+fn tell(s: State, k: u64, v: u64) {
     let l = s.now;
     let aside = s.aside;
     if k == 920 {
@@ -219,7 +204,7 @@ fn main() {
             return;
         }
         let k = command(&line);
-        let v = value(&line);
+        let v = replay::hex(&line, 4);
         if k < 920 {
             s = done(s, k, v);
         } else {
