@@ -9,6 +9,7 @@ ghost use Rattle.layout.specs.Name.{validName};
 ghost use Rattle.layout.specs.Channels.{channelName};
 ghost use Rattle.layout.specs.Topology.{usedLayers, usedRows, layerCount, rowCount, layerZ, rowY, anchorX, rowStarts, anchorStarts};
 ghost use Rattle.layout.specs.Questions.{firstNo, layoutQuestions, question1, question4, question5, question6, countedTo, ordered, partsOrdered};
+ghost use Rattle.layout.specs.Accepted.{Accepted};
 use crate::Layout;
 use crate::channels::active_count;
 use crate::channels::active_names;
@@ -199,9 +200,11 @@ fn anchors_named(l: Layout) -> bool
     all_among(&names, n, &active, m) & all_distinct(&names, n)
 }
 
-// The number of the first question of 1 to 6 whose answer is no; 0 where there is none.
+// The number of the first question of 1 to 6 whose answer is no; 0 where there is none, and
+// `accepted` says what the layout then guarantees.
 pub fn first_no(l: Layout) -> u64
     ensures { λ r. ⌜ r ≡ firstNo (layoutQuestions l) ⌝ }
+    ensures accepted { λ r. ⌜ (r ≡ 0 → Accepted l) ⌝ }
 {
     if !channels_named(l) {
         return 1;

@@ -24,11 +24,6 @@ pub struct State {
     pub name: u64,
 }
 
-// The three digits in front.
-fn command(line: &[u8; 21]) -> u64 {
-    replay::digit(line[0]) * 100 + replay::digit(line[1]) * 10 + replay::digit(line[2])
-}
-
 fn set_channel(l: Layout, i: usize, v: u64) -> Layout {
     let mut m = l;
     let k = i / 2 % 24;
@@ -203,7 +198,7 @@ fn main() {
         if io::read_full(STDIN_FILENO, &mut line) < LINE {
             return;
         }
-        let k = command(&line);
+        let k = replay::three(&line);
         let v = replay::hex(&line, 4);
         if k < 920 {
             s = done(s, k, v);

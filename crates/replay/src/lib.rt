@@ -1,6 +1,6 @@
 // What the programs that replay answers share: numbers read from a line of text.
 ghost use mathlib.Core.Path.{_≡_};
-ghost use Rattle.replay.specs.Hex.{digitOf, hexOf};
+ghost use Rattle.replay.specs.Hex.{digitOf, hexOf, threeOf};
 
 // The value of a hexadecimal digit, of either case.
 pub fn digit(c: u8) -> u64
@@ -28,4 +28,14 @@ pub fn hex(text: &[u8], from: usize) -> u64
         i += 1;
     }
     n
+}
+
+// The number that the three digits in front stand for; 0 where the text has fewer.
+pub fn three(text: &[u8]) -> u64
+    ensures { λ r. ⌜ r ≡ threeOf (now (text .entry)) ⌝ }
+{
+    if text.len() < 3 {
+        return 0;
+    }
+    digit(text[0]) * 100 + digit(text[1]) * 10 + digit(text[2])
 }

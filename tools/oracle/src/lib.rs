@@ -31,6 +31,28 @@ pub mod extent {
                 z.map_or(Vec::new(), |z| ends(z, 1)),
             ]
         }
+        /// Mean and radius of an extent.
+        pub fn read(extent: [f64; 3]) -> Option<(u32, f64)> {
+            let (mean, scalar) = super::extent_scalar(extent).ok()?;
+            Some((mean, super::extent_radius(scalar)))
+        }
+
+        /// A field, with room for chosen numbers in its tables.
+        pub struct Field(super::ExtentFieldCache);
+
+        impl Field {
+            pub fn build(layout: &crate::SpatialLayout) -> Self {
+                Self(super::ExtentFieldCache::build(layout).unwrap())
+            }
+            pub fn project(&self, layout: &crate::SpatialLayout, descriptor: &crate::SpatialDescriptor) -> Vec<f64> {
+                self.0.project(layout, descriptor).unwrap()
+            }
+            /// The k-th number of the table of X.
+            pub fn set_x(&mut self, k: usize, value: f64) {
+                self.0.x.values[k] = value;
+            }
+        }
+
         pub fn exp2(value: f64) -> f64 {
             super::approx_exp2(value)
         }

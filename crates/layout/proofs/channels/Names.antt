@@ -5,7 +5,7 @@ use mathlib.Core.Bool.{true, false}
 use mathlib.Core.List.{List, [], _∷_, _++_, map}
 use native.Mathlib.Omega.{arith}
 use lib.ListN.{length, getD, take, drop, length-map, length-take, length-drop, length-append}
-use lib.Seq.{slice}
+use lib.Seq.{slice, take-append-seam}
 use Rattle.lists.specs.Lists.{filter}
 use Rattle.lists.proofs.Loops.{slice-more, slice-done}
 use Rattle.lists.proofs.Filter.{filter-length}
@@ -42,3 +42,7 @@ count-most l k = omega (arith, length-map (filter active (channelsOf l)) channel
 -- an array of 24 with the names written to its front is as long
 pub names-length : (l : Layout) (old : List ℕ) → length (l .channels) ≡ 24 → length old ≡ 24 → length (activeNames l ++ drop (activeCount l) old) ≡ 24
 names-length l old k h = omega (arith, count-most l k, length-append (activeNames l) (drop (activeCount l) old), length-drop (activeCount l) old)
+
+-- and its first entries are the names
+pub names-front : (l : Layout) (n : ℕ) (old out : List ℕ) → n ≡ activeCount l → out ≡ activeNames l ++ drop (activeCount l) old → take n out ≡ activeNames l
+names-front l n old out p q = rw (p, q) (take-append-seam (activeNames l) (drop (activeCount l) old))

@@ -1,33 +1,22 @@
 -- `replay::hex` meets its contract: what is read and the digits that are left make the whole number. Assumes nothing.
-use Prim.Native.Nat.{ℕ, _+_, _-_, _%_, _≤_, _<_}
-use mathlib.Core.Bool.{Bool, true, false, cond}
-use lib.Dec.{ltb}
+use Prim.Native.Nat.{_+_, _-_, _≤_, _<_}
 use mathlib.Core.Path.{_≡_, refl, sym, ap, _∙_}
-use mathlib.Core.List.{List}
 use native.Mathlib.Omega.{arith}
 use borrow.Author.Needs.{needs}
 use borrow.Author.Tests.{le-leb, lt-leb}
 use lib.ListN.{length, getD}
 use lib.Seq.{slice}
 use Rattle.lists.proofs.Loops.{slice-more, slice-done}
-use Rattle.replay.specs.Hex.{digitOf, hexFrom, hexOf}
+use Rattle.replay.proofs.Digits.{digit-lt}
+use Rattle.replay.specs.Hex.{hexFrom}
 use Rattle.replay.proofs.hex.Statement.{statement}
 use Rattle.replay.proofs.hex.Tie as tie
-use Rattle.replay.proofs.hex.Reads as reads
-use Rattle.replay.proofs.hex.Lts as lts
 
 abbrev Inv-loop : tie.InvT-loop
 Inv-loop text from end n₀ i₀ n i = (i ≤ end) × (hexFrom n (slice i end text) ≡ hexFrom 0 (slice from end text))
 
 abbrev μ-loop : tie.MeasureT-loop
 μ-loop text from end n₀ i₀ n i = end - i
-
-digit-lt : (c : ℕ) → digitOf c < 16
-digit-lt c = go (ltb c 58)
-  where
-    go : (b : Bool) → cond b (c % 16) ((c + 9) % 16) < 16
-    go true = omega arith
-    go false = omega arith
 
 returns : tie.Need-returns Inv-loop μ-loop
 returns c =

@@ -1,6 +1,6 @@
 //! Writes the inputs and the answers that crates/field_vectors replays: `field_vectors FOLDER`.
 //! The tables are those of the original's ExtentFieldCache with the stand-ins.
-use oracle::{extent::open, random::Random, rooms, SpatialLayout};
+use oracle::{extent::open, random::Random, rooms, SpatialDescriptor, SpatialLayout, SpatialSourceClass};
 use std::{env, fmt::Write, fs, path::Path};
 
 const PLACE: usize = 35664;
@@ -57,6 +57,37 @@ impl Script {
         self.put(922, i as u64);
         writeln!(self.answers, "{:016x}", self.store[i].to_bits()).unwrap();
     }
+    /// One projection over place p.
+    fn project(&mut self, p: usize, l: &SpatialLayout, field: &open::Field, extent: [f64; 3], centre: [f64; 3], points: &[f64]) {
+        for (i, x) in extent.iter().chain(&centre).enumerate() {
+            self.put(930 + i, x.to_bits());
+        }
+        self.put(937, 0);
+        for x in points {
+            self.put(936, x.to_bits());
+        }
+        self.put(940, p as u64);
+        let Some((mean, radius)) = open::read(extent) else {
+            self.answers.push_str("7\n");
+            return;
+        };
+        writeln!(self.answers, "{mean} {:016x}", radius.to_bits()).unwrap();
+        let descriptor = SpatialDescriptor {
+            source_class: SpatialSourceClass::DynamicPoint,
+            coordinates: centre.to_vec(),
+            spread: None,
+            paired: None,
+            pair_span_q15: None,
+            extent: Some(extent),
+            zones: None,
+            channel_lock: false,
+            point_gains: points.to_vec(),
+        };
+        for gain in field.project(l, &descriptor) {
+            let bits = if gain.is_nan() { 0x7ff8_0000_0000_0000 } else { gain.to_bits() };
+            writeln!(self.answers, "{bits:016x}").unwrap();
+        }
+    }
     /// Fills a place; answers the offsets of the nine tables.
     fn fill(&mut self, p: usize, l: &SpatialLayout) -> [(usize, usize); 9] {
         self.put(920, p as u64);
@@ -71,6 +102,51 @@ impl Script {
             self.store[from..from + tables[i].len()].copy_from_slice(&tables[i]);
             (from, size)
         })
+    }
+}
+
+/// A coordinate of a centre: inside, at a wall, outside, at a knot, -0.
+fn coordinate(random: &mut Random) -> f64 {
+    match random.below(12) {
+        0 => 0.0,
+        1 => 1.0,
+        2 => -0.0,
+        3 => -random.unit(),
+        4 => 1.0 + random.unit(),
+        5 => random.below(35) as f64 / 34.0,
+        6 => random.below(4) as f64 / 3.0,
+        7 => random.unit() * 0.01,
+        8 => 1.0 - random.unit() * 0.01,
+        _ => random.unit(),
+    }
+}
+
+/// An extent: small ones, whole ones, and such whose radius is near 0.05, 0.125 or a knot's.
+fn extent(random: &mut Random) -> [f64; 3] {
+    let means = [0, 1, 2, 3, 4, 6553, 6554, 4369, 4370, 4371, 9175, 9362, 10922, 16384, 24576, 24577, 32766, 32767];
+    match random.below(4) {
+        0 => {
+            let v = means[random.below(means.len() as u64) as usize] as f64 / 32768.0;
+            [v, v, v]
+        }
+        1 => [random.unit(), random.unit(), random.unit()],
+        2 => [random.unit() * 0.01, 0.0, -0.0],
+        _ => {
+            let v = random.unit() * 0.3;
+            [v, v, v]
+        }
+    }
+}
+
+/// A point gain: from 0 to 5/4, now and then an end, -0 or a subnormal.
+fn point(random: &mut Random) -> f64 {
+    match random.below(10) {
+        0 => 0.0,
+        1 => -0.0,
+        2 => 1.25,
+        3 => f64::from_bits(random.below(1 << 40)),
+        4 => 1.0,
+        _ => random.unit() * 1.25,
     }
 }
 
@@ -113,6 +189,43 @@ fn main() {
         }
     }
     s.part(0, STORE);
+    // projections over built fields
+    for (i, l) in list.iter().enumerate() {
+        s.layout(l);
+        let p = i % 8;
+        s.fill(p, l);
+        let mut field = open::Field::build(l);
+        let n = l.channels.iter().filter(|c| c.enabled && !c.lfe).count();
+        for _ in 0..40 {
+            let points: Vec<f64> = (0..n).map(|_| point(&mut random)).collect();
+            let centre = [coordinate(&mut random), coordinate(&mut random), coordinate(&mut random)];
+            s.project(p, l, &field, extent(&mut random), centre, &points);
+        }
+        // sums that overflow or vanish: chosen numbers in the table of X
+        if i % 6 == 0 {
+            for value in [f64::MAX, f64::MIN_POSITIVE, 0.0, -1.0, f64::INFINITY, f64::NAN, 1e-200] {
+                for knot in 0..700 {
+                    for k in 0..n.min(2) {
+                        field.set_x(knot * n + k, value);
+                    }
+                }
+                for knot in [6 * 20 + 5, 6 * 20 + 6, 7 * 20 + 5, 7 * 20 + 6] {
+                    for k in 0..n.min(2) {
+                        s.put(938, (PLACE * p + knot * n + k) as u64);
+                        s.put(939, value.to_bits());
+                    }
+                }
+                let points: Vec<f64> = (0..n).map(|_| point(&mut random)).collect();
+                s.project(p, l, &field, [0.45, 0.45, 0.45], [0.2, 0.5, 0.4], &points);
+            }
+        }
+    }
+    for e in [[f64::NAN, 0.0, 0.0], [0.0, 1.5, 0.0], [0.0, 0.0, -0.1], [f64::INFINITY, 0.0, 0.0]] {
+        let l = &list[0];
+        let field = open::Field::build(l);
+        s.layout(l);
+        s.project(0, l, &field, e, [0.5; 3], &[1.0]);
+    }
     fs::write(Path::new(&folder).join("stdin"), s.inputs).unwrap();
     fs::write(Path::new(&folder).join("stdout"), s.answers).unwrap();
 }

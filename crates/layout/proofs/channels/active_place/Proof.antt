@@ -2,11 +2,10 @@
 use mathlib.Core.Path.{_≡_, refl, sym, ap, _∙_}
 use native.Mathlib.Omega.{arith}
 use borrow.Author.Needs.{needs}
-use lib.ListN.{length, drop, replicate}
-use lib.Seq.{take-append-seam}
+use lib.ListN.{length, replicate}
 use Rattle.lists.proofs.Loops.{long}
-use Rattle.layout.specs.Channels.{activeNames, activeCount}
-use Rattle.layout.proofs.channels.Names.{count-most, names-length}
+use Rattle.lists.specs.Lists.{placeOf}
+use Rattle.layout.proofs.channels.Names.{count-most, names-length, names-front}
 use Rattle.layout.proofs.channels.active_place.Statement.{statement}
 use Rattle.layout.proofs.channels.active_place.Tie as tie
 
@@ -25,8 +24,8 @@ requires c κs = omega (arith, names-long (c .before), count-most (c .before .be
 returns : tie.Need-returns
 returns c =
     let a = c .before .before in
-    let l = a .before .before .args .l in
-    c .place-of .ensures ∙ rw (a .active-names .ensures .0, a .active-names .ensures .1, take-append-seam (activeNames l) (drop (activeCount l) (replicate 24 0)))
+    let s = a .before .before in
+    c .place-of .ensures ∙ ap (placeOf (s .args .name)) (names-front (s .args .l) _ (replicate 24 0) _ (a .active-names .ensures .0) (a .active-names .ensures .1))
 
 pub active-place-spec : {M : Type 1} → statement M
 active-place-spec = tie.close (tie.spec (λ c κs. search needs) aggregate requires returns)
