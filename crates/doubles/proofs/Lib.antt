@@ -9,3 +9,5 @@ pub mod Interpolation
 pub mod Differences
 pub mod Bound
 pub mod Laws
+pub mod Ratio
+pub mod Weights

@@ -1,14 +1,14 @@
 -- `cases::cases_hold` meets its contract: the table is computed. Assumes nothing.
 use mathlib.Core.Path.{_≡_, refl}
 use mathlib.Core.Bool.{true}
-use lib.Ieee.{add, sub, mul, div, lt, le, ofInt, round, toSigned, toBits}
+use lib.Ieee.{add, sub, mul, div, sum, lt, le, eq, ofInt, round, toSigned, toUnsigned, toBits}
 use Rattle.lists.specs.Lists.{all}
 use Rattle.cases.specs.Cases.{cases, holds}
 use Rattle.cases.proofs.cases_hold.Statement.{statement}
 use Rattle.cases.proofs.cases_hold.Tie as tie
 
 returns : tie.Need-returns
-unfolding cases add sub mul div lt le ofInt round toSigned toBits
+unfolding cases add sub mul div sum lt le eq ofInt round toSigned toUnsigned toBits
 returns c = refl
 
 pub cases-hold-spec : {M : Type 1} → statement M

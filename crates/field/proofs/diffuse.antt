@@ -1,0 +1,5 @@
+pub mod Cases
+pub mod Channels
+pub mod Ends
+pub mod Axes
+pub mod Field

@@ -1,0 +1,5 @@
+pub mod Cut
+pub mod Ranges
+pub mod Transfer
+pub mod Product
+pub mod Bounds

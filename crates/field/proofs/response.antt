@@ -1,0 +1,4 @@
+pub mod Slices
+pub mod Picks
+pub mod Parts
+pub mod Runs

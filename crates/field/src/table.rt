@@ -1,0 +1,136 @@
+// The tables: responses summed over the samples, for each centre, radius and channel.
+ghost use mathlib.Core.Path.{_≡_};
+ghost use Prim.Native.Nat.{ℕ, _+_, _-_, _*_, _/_, _%_, _≤_, _<_};
+ghost use lib.Ieee.{nan};
+ghost use lib.ListN.{length, getD};
+ghost use Rattle.field.specs.Kernel.{kernelOf};
+ghost use Rattle.field.specs.Knots.{Z, steps};
+ghost use Rattle.field.specs.Tables.{sampledOver, knotNumber, numberXY, row};
+ghost use Rattle.field.specs.Patched.{patched, within, either};
+use crate::kernel::compact_quartic_kernel;
+use crate::kernel::shaped;
+use crate::kernel::shaping_exponent;
+use crate::knots::radius_knot;
+use crate::knots::step;
+
+// The kernel at each sample.
+fn kernels(out: &mut [f64], samples: usize, center: f64, radius: f64, z: bool)
+    requires { ⌜ (samples ≤ 20) × (samples ≤ length (now out)) ⌝ }
+    ensures { λ _. ⌜ now (out .exit) ≡ patched (within 0 samples) (λ (s : ℕ). kernelOf (steps (samples - 1) s) center radius z) (now (out .entry)) ⌝ }
+{
+    let mut s = 0usize;
+    while s < samples {
+        out[s] = compact_quartic_kernel(step(s, samples - 1), center, radius, z);
+        s += 1;
+    }
+}
+
+// The number of channel k: over the samples in rising order, the shaped products of kernel and
+// response; a sample whose kernel is at most 0 adds nothing.
+fn sampled(kernels: &[f64], responses: &[f64], samples: usize, k: usize, exponent: f64) -> f64
+    requires { ⌜ (samples ≤ 20) × (samples ≤ length (now kernels)) × (k < 24) × (480 ≤ length (now responses)) ⌝ }
+    ensures { λ r. ⌜ r ≡ sampledOver (λ (s : ℕ). getD (now (kernels .entry)) s nan) (λ (s : ℕ). getD (now (responses .entry)) (s * 24 + k) nan) exponent samples ⌝ }
+{
+    let mut sum = 0.0;
+    let mut s = 0usize;
+    while s < samples {
+        let kernel = kernels[s];
+        if !(kernel <= 0.0) {
+            sum = sum + shaped(kernel * responses[s * 24 + k], exponent);
+        }
+        s += 1;
+    }
+    sum
+}
+
+// The numbers of all n channels, from `from` on.
+fn sampled_response(
+    store: &mut [f64],
+    from: usize,
+    n: usize,
+    kernels: &[f64],
+    responses: &[f64],
+    samples: usize,
+    exponent: f64,
+)
+    requires { ⌜ (from + n ≤ length (now store)) × (n ≤ 24) × (samples ≤ 20) × (samples ≤ length (now kernels)) × (480 ≤ length (now responses)) ⌝ }
+    ensures { λ _. ⌜ now (store .exit) ≡ patched (within from (from + n)) (λ (i : ℕ). sampledOver (λ (s : ℕ). getD (now (kernels .entry)) s nan) (λ (s : ℕ). getD (now (responses .entry)) (s * 24 + (i - from)) nan) exponent samples) (now (store .entry)) ⌝ }
+{
+    let mut k = 0usize;
+    while k < n {
+        store[from + k] = sampled(kernels, responses, samples, k, exponent);
+        k += 1;
+    }
+}
+
+// One centre and radius of X and of Y, which share the kernel.
+fn knot_xy(store: &mut [f64], base: usize, n: usize, x: &[f64], y: &[f64], knot: usize)
+    requires { ⌜ (base + 1400 * n ≤ length (now store)) × (n ≤ 24) × (knot < 700) ⌝ }
+    requires { ⌜ (480 ≤ length (now x)) × (480 ≤ length (now y)) ⌝ }
+    ensures { λ _. ⌜ now (store .exit) ≡ patched (either (row base n knot) (row base n (700 + knot))) (λ (i : ℕ). numberXY (now (x .entry)) (now (y .entry)) ((i - base) / n) ((i - base) % n)) (now (store .entry)) ⌝ }
+{
+    let mut kernel = [0.0f64; 20];
+    let radius = radius_knot(knot % 20);
+    let exponent = shaping_exponent(radius);
+    kernels(&mut kernel, 20, step(knot / 20, 34), radius, false);
+    sampled_response(store, base + knot * n, n, &kernel, x, 20, exponent);
+    sampled_response(store, base + (700 + knot) * n, n, &kernel, y, 20, exponent);
+}
+
+// The tables of X and Y: 35 centres of 20 radii.
+pub fn table_xy(store: &mut [f64], base: usize, n: usize, x: &[f64], y: &[f64])
+    requires { ⌜ (base + 1400 * n ≤ length (now store)) × (1 ≤ n) × (n ≤ 24) ⌝ }
+    requires { ⌜ (480 ≤ length (now x)) × (480 ≤ length (now y)) ⌝ }
+    ensures { λ _. ⌜ now (store .exit) ≡ patched (within base (base + 1400 * n)) (λ (i : ℕ). numberXY (now (x .entry)) (now (y .entry)) ((i - base) / n) ((i - base) % n)) (now (store .entry)) ⌝ }
+{
+    let mut knot = 0usize;
+    while knot < 700 {
+        knot_xy(store, base, n, x, y, knot);
+        knot += 1;
+    }
+}
+
+// One centre and radius of Z.
+fn knot_z(store: &mut [f64], base: usize, n: usize, z: &[f64], knot: usize)
+    requires { ⌜ (base + 1480 * n ≤ length (now store)) × (n ≤ 24) × (knot < 80) ⌝ }
+    requires { ⌜ 480 ≤ length (now z) ⌝ }
+    ensures { λ _. ⌜ now (store .exit) ≡ patched (row base n (1400 + knot)) (λ (i : ℕ). knotNumber Z (now (z .entry)) ((i - base) / n - 1400) ((i - base) % n)) (now (store .entry)) ⌝ }
+{
+    let mut kernel = [0.0f64; 20];
+    let radius = radius_knot(knot % 20);
+    kernels(&mut kernel, 8, step(knot / 20, 3), radius, true);
+    sampled_response(
+        store,
+        base + (1400 + knot) * n,
+        n,
+        &kernel,
+        z,
+        8,
+        shaping_exponent(radius),
+    );
+}
+
+// The table of Z: 4 centres of 20 radii.
+pub fn table_z(store: &mut [f64], base: usize, n: usize, z: &[f64])
+    requires { ⌜ (base + 1480 * n ≤ length (now store)) × (1 ≤ n) × (n ≤ 24) ⌝ }
+    requires { ⌜ 480 ≤ length (now z) ⌝ }
+    ensures { λ _. ⌜ now (store .exit) ≡ patched (within (base + 1400 * n) (base + 1480 * n)) (λ (i : ℕ). knotNumber Z (now (z .entry)) ((i - base) / n - 1400) ((i - base) % n)) (now (store .entry)) ⌝ }
+{
+    let mut knot = 0usize;
+    while knot < 80 {
+        knot_z(store, base, n, z, knot);
+        knot += 1;
+    }
+}
+
+// An end response: the n responses at one sample.
+pub fn end_response(store: &mut [f64], from: usize, n: usize, responses: &[f64], sample: usize)
+    requires { ⌜ (from + n ≤ length (now store)) × (n ≤ 24) × (sample < 20) × (480 ≤ length (now responses)) ⌝ }
+    ensures { λ _. ⌜ now (store .exit) ≡ patched (within from (from + n)) (λ (i : ℕ). getD (now (responses .entry)) (sample * 24 + (i - from)) nan) (now (store .entry)) ⌝ }
+{
+    let mut k = 0usize;
+    while k < n {
+        store[from + k] = responses[sample * 24 + k];
+        k += 1;
+    }
+}

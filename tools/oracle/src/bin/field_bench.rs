@@ -1,0 +1,128 @@
+//! Times `field` beside the original in one run: `field_bench PROGRAM`, PROGRAM being the compiled
+//! crates/field_vectors. Each time is the difference of two runs that differ in their number of turns.
+use oracle::{extent::open, random::Random, rooms, SpatialDescriptor, SpatialLayout, SpatialSourceClass};
+use std::{
+    env,
+    fmt::Write as _,
+    hint::black_box,
+    io::Write as _,
+    process::{Command, Stdio},
+    time::Instant,
+};
+
+fn packed(name: &str) -> u64 {
+    name.bytes().rev().fold(0, |n, b| n << 8 | u64::from(b))
+}
+
+fn script(l: &SpatialLayout) -> String {
+    let mut text = String::new();
+    let mut put = |k: usize, v: u64| writeln!(text, "{k:03} {v:016x}").unwrap();
+    put(900, 0);
+    for c in &l.channels {
+        put(901, packed(&c.identity));
+        put(902, u64::from(c.enabled) | u64::from(c.lfe) << 1);
+    }
+    for layer in &l.topology.layers {
+        put(903, layer.z.to_bits());
+        for row in &layer.rows {
+            put(904, row.y.to_bits());
+            for a in &row.anchors {
+                put(901, packed(&a.identity));
+                put(905, a.x.to_bits());
+            }
+        }
+    }
+    text
+}
+
+/// Seconds of the program on a script; the best of some runs.
+fn run(program: &str, script: &str) -> f64 {
+    (0..5)
+        .map(|_| {
+            let mut child =
+                Command::new(program).stdin(Stdio::piped()).stdout(Stdio::null()).spawn().expect("the program");
+            let start = Instant::now();
+            child.stdin.take().unwrap().write_all(script.as_bytes()).unwrap();
+            child.wait().unwrap();
+            start.elapsed().as_secs_f64()
+        })
+        .fold(f64::INFINITY, f64::min)
+}
+
+fn best(turns: u64, mut f: impl FnMut()) -> f64 {
+    (0..5)
+        .map(|_| {
+            let start = Instant::now();
+            for _ in 0..turns {
+                f();
+            }
+            start.elapsed().as_secs_f64() / turns as f64
+        })
+        .fold(f64::INFINITY, f64::min)
+}
+
+fn full() -> SpatialLayout {
+    let mut random = Random(3);
+    loop {
+        let l = rooms::random(&mut random, 24);
+        let anchors: usize = l.topology.layers.iter().flat_map(|x| &x.rows).map(|r| r.anchors.len()).sum();
+        if anchors == 24 && l.topology.layers.len() > 1 {
+            return l;
+        }
+    }
+}
+
+fn main() {
+    let program = env::args().nth(1).expect("the program field_vectors");
+    let real = rooms::real();
+    println!("{:<34} {:>12} {:>12}   ratio", "", "Rattle", "Rust");
+    for (name, l) in [("n = 5 (5.1)", &real[2]), ("n = 11 (7.1.4)", &real[5]), ("n = 24", &full())] {
+        let text = script(l);
+        let turns = 60;
+        let few = run(&program, &format!("{text}923 {:016x}\n", 1));
+        let many = run(&program, &format!("{text}923 {:016x}\n", 1 + turns));
+        let ours = (many - few) / turns as f64;
+        let theirs = best(turns, || {
+            black_box(open::Field::build(black_box(l)));
+        });
+        println!("{:<34} {:>9.1} us {:>9.1} us   {:.2}", format!("build, {name}"), ours * 1e6, theirs * 1e6, ours / theirs);
+        let n = l.channels.iter().filter(|c| c.enabled && !c.lfe).count();
+        for (kind, extent, centre) in [
+            ("field", 0.45, [0.2, 0.5, 0.4]),
+            ("field, off the walls", 0.1, [0.5, 0.5, 0.4]),
+            ("both", 0.12, [0.3, 0.4, 0.4]),
+        ] {
+            let mut text = format!("{text}920 {:016x}\n", 0);
+            for (i, x) in [extent, extent, extent, centre[0], centre[1], centre[2]].into_iter().enumerate() {
+                writeln!(text, "{:03} {:016x}", 930 + i, f64::to_bits(x)).unwrap();
+            }
+            for _ in 0..n {
+                writeln!(text, "936 {:016x}", 0.3f64.to_bits()).unwrap();
+            }
+            let turns = 1_000_000;
+            let few = run(&program, &format!("{text}941 {:016x}\n", 1));
+            let many = run(&program, &format!("{text}941 {:016x}\n", 1 + turns));
+            let ours = (many - few) / turns as f64;
+            let field = open::Field::build(l);
+            let descriptor = |x: f64| SpatialDescriptor {
+                source_class: SpatialSourceClass::DynamicPoint,
+                coordinates: vec![x, centre[1], centre[2]],
+                spread: None,
+                paired: None,
+                pair_span_q15: None,
+                extent: Some([extent; 3]),
+                zones: None,
+                channel_lock: false,
+                point_gains: vec![0.3; n],
+            };
+            let both = [descriptor(centre[0]), descriptor(centre[0] + 0.0078125)];
+            let mut turn = 0;
+            let theirs = best(100_000, || {
+                turn += 1;
+                black_box(field.project(black_box(l), black_box(&both[turn % 2])));
+            });
+            let label = format!("project, {kind}, {name}");
+            println!("{label:<34} {:>9.1} ns {:>9.1} ns   {:.2}", ours * 1e9, theirs * 1e9, ours / theirs);
+        }
+    }
+}
