@@ -1,16 +1,25 @@
 -- The table of document 01's starred cases: what a definition gives, and what it must give, as numbers; a double by its bit pattern.
-use Prim.Native.Nat.{ℕ}
-use mathlib.Core.Bool.{Bool, true}
+use Prim.Native.Nat.{ℕ, _+_, _*_}
+use mathlib.Core.Bool.{Bool, true, false}
 use mathlib.Core.List.{List, [], _∷_}
 use lib.Dec.{eqb}
 use lib.IntN.{pos, negsuc}
-use mathlib.Core.Bool.{false}
 use lib.Ieee.{Float, binary64, nan, fin, toBits}
 use Rattle.doubles.specs.Arithmetic.{dec, whole, zero, one}
 use Rattle.doubles.specs.Circular.{H, cosineOf}
 use Rattle.doubles.specs.Exp2.{exp2Of}
 use Rattle.field.specs.declared.Extent.{Extent}
 use Rattle.field.specs.Extent.{meanOf, readingOf, quantised}
+use Rattle.lists.specs.Lists.{bit}
+use Rattle.selector.specs.declared.RegionHorizontalState.{RegionHorizontalState}
+use Rattle.selector.specs.declared.RegionHorizontalState.the-variants.{NoConstraints, BackExcluded, SideExcluded, CentreAndBack, ScreenOnly, SurroundOnly}
+use Rattle.selector.specs.declared.RegionTopBottomState.the-variants.{Exclude}
+use Rattle.selector.specs.declared.Zones.{Zones}
+use Rattle.selector.specs.declared.Zones.the-variants.{State, Refused}
+use Rattle.selector.specs.declared.Bed.{Bed}
+use Rattle.selector.specs.declared.Bed.the-variants.{Kept, Dropped, Unclassed}
+use Rattle.selector.specs.Zones.{zonesOf, isInclude}
+use Rattle.selector.specs.Classes.{bedOf}
 
 pub record Case : Type 0 where
   pub found : ℕ
@@ -37,7 +46,42 @@ tiny = fin false 1 (negsuc 15)
 abbrev pub belowTiny : Float
 belowTiny = fin false 9007199254740991 (negsuc 68)
 
--- Doubles and approximations; Extent
+-- what six flags say, as a number: no two answers have the same
+abbrev pub horizontalNumber : RegionHorizontalState → ℕ
+horizontalNumber NoConstraints = 1
+horizontalNumber BackExcluded = 2
+horizontalNumber SideExcluded = 3
+horizontalNumber CentreAndBack = 4
+horizontalNumber ScreenOnly = 5
+horizontalNumber SurroundOnly = 6
+
+abbrev pub zonesNumber : Zones → ℕ
+zonesNumber (State s) = 100 * horizontalNumber (s .horizontal) + bit (isInclude (s .top))
+zonesNumber (Refused n) = n
+
+abbrev pub zones : Zones → Zones → Case
+zones a b = numbers (zonesNumber a) (zonesNumber b)
+
+-- what a region does with a speaker, as a number
+abbrev pub bedNumber : Bed → ℕ
+bedNumber Kept = 1
+bedNumber Dropped = 2
+bedNumber Unclassed = 3
+
+abbrev pub beds : Bed → Bed → Case
+beds a b = numbers (bedNumber a) (bedNumber b)
+
+abbrev T : Bool
+T = true
+
+abbrev F : Bool
+F = false
+
+-- Ls
+abbrev pub leftSurround : ℕ
+leftSurround = 76 + 256 * 115
+
+-- Doubles and approximations; Extent; Zones and selection
 unfoldable pub cases : List Case
 unfolding exp2Of cosineOf readingOf quantised
 cases =
@@ -53,4 +97,10 @@ cases =
     ∷ numbers (meanOf (extent belowTiny belowTiny belowTiny)) 1
     ∷ numbers (meanOf (extent tiny zero zero)) 0
     ∷ numbers (readingOf (extent nan zero zero) .refusal) 7
+    ∷ zones (zonesOf (F ∷ F ∷ F ∷ F ∷ F ∷ T ∷ [])) (Refused 8)
+    ∷ zones (zonesOf (T ∷ T ∷ T ∷ T ∷ T ∷ F ∷ [])) (State (record { horizontal = NoConstraints; top = Exclude }))
+    ∷ beds (bedOf BackExcluded leftSurround true) Dropped
+    ∷ beds (bedOf SideExcluded leftSurround true) Kept
+    ∷ beds (bedOf BackExcluded leftSurround false) Kept
+    ∷ beds (bedOf SideExcluded leftSurround false) Dropped
     ∷ []

@@ -1,0 +1,71 @@
+// Regions: what the zone flags say, which speakers a region keeps, and the layout of those kept.
+ghost use mathlib.Core.Path.{_≡_};
+ghost use Rattle.selector.specs.Zones.{defaultState};
+
+mod classes;
+mod region;
+mod select;
+
+pub use classes::five_x;
+pub use classes::is_22_2;
+pub use classes::matches_bed_state;
+pub use region::from_decoded_zones;
+pub use region::is_default;
+pub use region::to_decoded_zones;
+
+pub enum RegionHorizontalState {
+    NoConstraints,
+    BackExcluded,
+    SideExcluded,
+    CentreAndBack,
+    ScreenOnly,
+    SurroundOnly,
+}
+
+pub enum RegionTopBottomState {
+    Include,
+    Exclude,
+}
+
+// A horizontal state with a top state beside it.
+pub struct RegionSemanticState {
+    pub horizontal: RegionHorizontalState,
+    pub top: RegionTopBottomState,
+}
+
+impl RegionSemanticState {
+    // The state that selects the layout itself.
+    pub const DEFAULT: RegionSemanticState = RegionSemanticState {
+        horizontal: RegionHorizontalState::NoConstraints,
+        top: RegionTopBottomState::Include,
+    };
+
+    pub fn default() -> RegionSemanticState
+        ensures { λ r. ⌜ r ≡ defaultState ⌝ }
+    {
+        RegionSemanticState::DEFAULT
+    }
+}
+
+// What six flags say: a state, or the number of the refusal.
+pub enum Zones {
+    State(RegionSemanticState),
+    Refused(u64),
+}
+
+// What a region does with a speaker of the bed: it keeps it or drops it, or the speaker has no class.
+pub enum Bed {
+    Kept,
+    Dropped,
+    Unclassed,
+}
+
+// The classes of a speaker; `classed` is false where its name has none.
+pub struct Speaker {
+    pub classed: bool,
+    pub screen: bool,
+    pub centre: bool,
+    pub surround: bool,
+    pub back: bool,
+    pub side: bool,
+}
