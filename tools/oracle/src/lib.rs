@@ -47,6 +47,38 @@ pub mod extent {
             pub fn project(&self, layout: &crate::SpatialLayout, descriptor: &crate::SpatialDescriptor) -> Vec<f64> {
                 self.0.project(layout, descriptor).unwrap()
             }
+            /// The field whose numbers are those of a place of the store, for n active channels,
+            /// with a Z table or without.
+            pub fn of_place(place: &[f64], n: usize, deep: bool) -> Self {
+                // the knots are the same for every room: those of a small one with two layers
+                let channel = |name: &str| crate::SpatialLayoutChannel { identity: name.to_owned(), enabled: true, lfe: false };
+                let layer = |name: &str, z: f64| crate::SpatialLayoutLayer {
+                    z,
+                    rows: vec![crate::SpatialLayoutRow {
+                        y: 0.0,
+                        anchors: vec![crate::SpatialLayoutAnchor { identity: name.to_owned(), x: 0.0 }],
+                    }],
+                };
+                let small = crate::SpatialLayout {
+                    channels: vec![channel("a"), channel("b")],
+                    topology: crate::SpatialLayoutTopology { layers: vec![layer("a", 0.0), layer("b", 1.0)], aliases: Vec::new() },
+                };
+                let mut field = super::ExtentFieldCache::build(&small).unwrap();
+                let part = |from: usize, count: usize| place[from * n..(from + count) * n].to_vec();
+                let put = |table: &mut super::AxisResponseTable, from: usize, count: usize, ends: usize| {
+                    table.channels = n;
+                    table.values = part(from, count);
+                    table.endpoint_responses = [[part(ends, 1), part(ends + 1, 1)]];
+                };
+                put(&mut field.x, 0, 700, 1480);
+                put(&mut field.y, 700, 700, 1482);
+                put(field.z.as_mut().unwrap(), 1400, 80, 1484);
+                if !deep {
+                    field.z = None;
+                }
+                field.active_channels = n;
+                Self(field)
+            }
             /// The k-th number of the table of X.
             pub fn set_x(&mut self, k: usize, value: f64) {
                 self.0.x.values[k] = value;
@@ -80,4 +112,23 @@ pub mod original {
 #[allow(dead_code, clippy::all)]
 pub mod region {
     include!(concat!(env!("OUT_DIR"), "/region.rs"));
+
+    /// What the selector keeps to itself, for the drivers.
+    pub mod open {
+        use super::{RegionTopologySelector, SpatialDescriptor, SpatialLayout, SpatialProjectionError};
+
+        /// A call for gains.
+        pub fn gains(
+            selector: &mut RegionTopologySelector,
+            layout: &SpatialLayout,
+            descriptor: &SpatialDescriptor,
+            epoch: u64,
+        ) -> Result<Vec<f64>, SpatialProjectionError> {
+            Ok(selector.project_outcome_with_epoch(layout, descriptor, epoch)?.target)
+        }
+        /// The keys of the extent cache, the oldest first.
+        pub fn keys(selector: &RegionTopologySelector) -> Vec<(SpatialLayout, u64)> {
+            selector.extent_cache.iter().map(|e| (e.effective.clone(), e.topology_epoch)).collect()
+        }
+    }
 }
