@@ -4,12 +4,13 @@ use mathlib.Core.Bool.{Bool, true, false}
 use mathlib.Core.List.{List, [], _∷_}
 use lib.Dec.{eqb}
 use lib.IntN.{pos, negsuc}
-use lib.Ieee.{Float, binary64, nan, fin, toBits}
+use lib.Ieee.{Float, binary64, nan, fin, toBits, lt}
 use Rattle.doubles.specs.Arithmetic.{dec, whole, zero, one}
 use Rattle.doubles.specs.Circular.{H, cosineOf}
 use Rattle.doubles.specs.Exp2.{exp2Of}
 use Rattle.field.specs.declared.Extent.{Extent}
-use Rattle.field.specs.Extent.{meanOf, readingOf, quantised}
+use Rattle.field.specs.Extent.{meanOf, meanRadius, radiusOf, readingOf, quantised}
+use Rattle.field.specs.Kernel.{threshold, kernelOf}
 use Rattle.lists.specs.Lists.{bit}
 use Rattle.selector.specs.declared.RegionHorizontalState.{RegionHorizontalState}
 use Rattle.selector.specs.declared.RegionHorizontalState.the-variants.{NoConstraints, BackExcluded, SideExcluded, CentreAndBack, ScreenOnly, SurroundOnly}
@@ -81,9 +82,9 @@ F = false
 abbrev pub leftSurround : ℕ
 leftSurround = 76 + 256 * 115
 
--- Doubles and approximations; Extent; Zones and selection
+-- Doubles and approximations; Extent; Zones and selection; and, without a star, the three least means and the kernel
 unfoldable pub cases : List Case
-unfolding exp2Of cosineOf readingOf quantised
+unfolding exp2Of cosineOf readingOf quantised radiusOf kernelOf
 cases =
     doubles (exp2Of zero) one
     ∷ doubles (exp2Of (whole (negsuc 0))) (dec 5 1)
@@ -103,4 +104,9 @@ cases =
     ∷ beds (bedOf SideExcluded leftSurround true) Kept
     ∷ beds (bedOf BackExcluded leftSurround false) Kept
     ∷ beds (bedOf SideExcluded leftSurround false) Dropped
+    ∷ numbers (bit (lt (meanRadius 1) threshold)) 1
+    ∷ numbers (bit (lt (meanRadius 2) threshold)) 1
+    ∷ numbers (bit (lt (meanRadius 3) threshold)) 0
+    ∷ doubles (kernelOf (dec 5 1) (dec 5 1) (dec 1 1) false) one
+    ∷ doubles (kernelOf (dec 5 1) (dec 5 1) (dec 24 6) false) zero
     ∷ []
