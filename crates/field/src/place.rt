@@ -17,15 +17,15 @@ use crate::table::table_xy;
 use crate::table::table_z;
 use layout::Layout;
 use layout::active_count;
-use layout::anchor_places;
 use layout::anchor_starts;
-use layout::anchor_xs;
-use layout::first_no;
-use layout::layer_starts;
-use layout::layer_zs;
 use layout::row_starts;
 use layout::row_total;
-use layout::row_ys;
+use questions::first_no;
+use walk::anchor_places;
+use walk::anchor_xs;
+use walk::layer_starts;
+use walk::layer_zs;
+use walk::row_ys;
 
 // How many doubles a place has, and how many the store.
 const PLACE: usize = 35664;

@@ -1,3 +1,4 @@
+pub mod ActiveNames
 pub mod Coordinates
 pub mod QuestionsAccepted
 pub mod QuestionsCounted
@@ -9,6 +10,7 @@ pub mod SameLaws
 pub mod SameLists
 pub mod SameNumbers
 pub mod Sizes
+pub mod StartsFrom
 pub mod TopologyFlat
 pub mod TopologyLists
 pub mod TopologyRanges

@@ -17,8 +17,8 @@ use Rattle.layout.specs.Topology.{topologyOf, usedLayers, usedRows, used
 use Rattle.layout.specs.Questions.{firstNo, layoutQuestions, question1, question2, question3, question4, question5, question6, fromTo, ordered, orderedLayer, topologyZ, partsOrdered}
 use Rattle.layout.specs.Accepted.{Accepted}
 use Rattle.layout.proofs.TopologyStarts.{start-sum}
-use Rattle.layout.proofs.walk.Starts.{starts-length}
-use Rattle.layout.proofs.channels.Names.{count-most}
+use Rattle.layout.proofs.StartsFrom.{starts-length}
+use Rattle.layout.proofs.ActiveNames.{count-most}
 use Rattle.layout.proofs.QuestionsCounted.{both, within, total-most}
 use Rattle.layout.proofs.QuestionsLoops.{holds, all-at}
 use Rattle.layout.proofs.QuestionsNamed.{any-count}

@@ -15,7 +15,7 @@ use Rattle.layout.specs.declared.Layer.{Layer}
 use Rattle.layout.specs.Topology.{TopologyRow, TopologyLayer, rowsOf, layersOf, rowY, rowCount, layerZ, layerCount, startsFrom, noRow, noLayer}
 use Rattle.layout.specs.Questions.{topologyY, topologyZ}
 use Rattle.layout.proofs.TopologyLists.{drop-cap, total-within}
-use Rattle.layout.proofs.walk.Starts.{starts-total}
+use Rattle.layout.proofs.StartsFrom.{starts-total}
 
 abbrev pub topologyAnchors : TopologyRow → List Anchor
 topologyAnchors r = r .anchors

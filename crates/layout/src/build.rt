@@ -6,8 +6,8 @@ use crate::Channel;
 use crate::Layer;
 use crate::Layout;
 use crate::Row;
-use crate::walk::anchor_total;
-use crate::walk::row_total;
+use crate::starts::anchor_total;
+use crate::starts::row_total;
 
 // One more, and the largest count stays.
 fn one_more(n: usize) -> usize

@@ -7,7 +7,7 @@ ghost use Rattle.lists.specs.Lists.{placeOf};
 ghost use Rattle.layout.specs.Channels.{active, activeNames, activeCount};
 use crate::Channel;
 use crate::Layout;
-use crate::numbers::place_of;
+use crate::places::place_of;
 
 // Whether a channel takes part: it is enabled and not LFE.
 pub fn is_active(c: Channel) -> bool

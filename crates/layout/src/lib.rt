@@ -1,5 +1,4 @@
-// A room as a value: channels, and a topology of layers, rows and anchors; and questions 1 to 6 of
-// document 01.
+// A room as a value: channels, and a topology of layers, rows and anchors.
 //
 // Everything is flat: the rows stand layer after layer and the anchors row after row, each layer
 // with the count of its rows and each row with the count of its anchors. Fields are public, and any
@@ -7,28 +6,21 @@
 mod build;
 mod channels;
 mod name;
-mod numbers;
-mod questions;
-mod same;
-mod walk;
+mod places;
+mod starts;
 
 pub use channels::active_count;
 pub use channels::active_names;
 pub use channels::active_place;
+pub use channels::covered;
 pub use channels::is_active;
 pub use name::is_name;
-pub use questions::first_no;
-pub use same::same_layout;
-pub use walk::anchor_names;
-pub use walk::anchor_places;
-pub use walk::anchor_starts;
-pub use walk::anchor_total;
-pub use walk::anchor_xs;
-pub use walk::layer_starts;
-pub use walk::layer_zs;
-pub use walk::row_starts;
-pub use walk::row_total;
-pub use walk::row_ys;
+pub use places::place_of;
+pub use starts::anchor_starts;
+pub use starts::anchor_total;
+pub use starts::covered_layers;
+pub use starts::row_starts;
+pub use starts::row_total;
 
 // A name is up to eight bytes, the first one lowest, with zeros behind.
 pub struct Channel {

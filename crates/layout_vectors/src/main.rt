@@ -121,14 +121,14 @@ fn put(n: u64, end: &[u8]) {
 }
 
 fn ask(l: Layout) {
-    put(layout::first_no(l), b" ");
+    put(questions::first_no(l), b" ");
     put(layout::active_count(l) as u64, b" ");
     put(layout::row_total(l) as u64, b" ");
     put(layout::anchor_total(l) as u64, b"\n");
 }
 
 fn compare(a: Layout, b: Layout) {
-    if layout::same_layout(a, b) {
+    if questions::same_layout(a, b) {
         io::write_all(STDOUT_FILENO, b"same\n");
     } else {
         io::write_all(STDOUT_FILENO, b"other\n");

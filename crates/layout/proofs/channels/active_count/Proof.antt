@@ -7,7 +7,7 @@ use borrow.Author.Needs.{needs}
 use lib.ListN.{length}
 use Rattle.lists.proofs.Loops.{long}
 use Rattle.layout.specs.Channels.{activeCount}
-use Rattle.layout.proofs.channels.Names.{namesFrom, names-all, names-done, names-here, names-next}
+use Rattle.layout.proofs.ActiveNames.{namesFrom, names-all, names-done, names-here, names-next}
 use Rattle.layout.proofs.channels.active_count.Statement.{statement}
 use Rattle.layout.proofs.channels.active_count.Tie as tie
 

@@ -10,7 +10,7 @@ use lib.Seq.{length-take-le}
 use Rattle.lists.proofs.Loops.{long}
 use Rattle.lists.proofs.Filter.{store, store-behind}
 use Rattle.layout.specs.Channels.{activeNames, activeCount}
-use Rattle.layout.proofs.channels.Names.{namesFrom, names-all, names-done, names-here, names-next}
+use Rattle.layout.proofs.ActiveNames.{namesFrom, names-all, names-done, names-here, names-next}
 use Rattle.layout.proofs.channels.active_names.Statement.{statement}
 use Rattle.layout.proofs.channels.active_names.Tie as tie
 

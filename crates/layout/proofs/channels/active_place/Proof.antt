@@ -1,11 +1,10 @@
 -- The names stand at the front of the array.
 use mathlib.Core.Path.{_≡_, refl, sym, ap, _∙_}
-use native.Mathlib.Omega.{arith}
 use borrow.Author.Needs.{needs}
 use lib.ListN.{length, replicate}
 use Rattle.lists.proofs.Loops.{long}
 use Rattle.lists.specs.Lists.{placeOf}
-use Rattle.layout.proofs.channels.Names.{count-most, names-length, names-front}
+use Rattle.layout.proofs.ActiveNames.{names-length, names-front}
 use Rattle.layout.proofs.channels.active_place.Statement.{statement}
 use Rattle.layout.proofs.channels.active_place.Tie as tie
 
@@ -18,9 +17,6 @@ names-long c = ap length (c .active-names .ensures .1) ∙ names-length (c .befo
 aggregate : tie.Need-slice-aggregate-place-of
 aggregate c = sym (names-long (c .before))
 
-requires : tie.Need-place-of-requires
-requires c κs = omega (arith, names-long (c .before), count-most (c .before .before .before .args .l) (channels-long (c .before .before .before)), c .before .active-names .ensures .0)
-
 returns : tie.Need-returns
 returns c =
     let a = c .before .before in
@@ -28,4 +24,4 @@ returns c =
     c .place-of .ensures ∙ ap (placeOf (s .args .name)) (names-front (s .args .l) _ (replicate 24 0) _ (a .active-names .ensures .0) (a .active-names .ensures .1))
 
 pub active-place-spec : {M : Type 1} → statement M
-active-place-spec = tie.close (tie.spec (λ c κs. search needs) aggregate requires returns)
+active-place-spec = tie.close (tie.spec (λ c κs. search needs) aggregate (λ c κs. search needs) returns)
