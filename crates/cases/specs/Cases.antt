@@ -8,9 +8,9 @@ use lib.Ieee.{Float, binary64, nan, fin, toBits, lt}
 use Rattle.doubles.specs.Arithmetic.{dec, whole, zero, one}
 use Rattle.doubles.specs.Circular.{H, cosineOf}
 use Rattle.doubles.specs.Exp2.{exp2Of}
-use Rattle.field.specs.declared.Extent.{Extent}
-use Rattle.field.specs.Extent.{meanOf, meanRadius, radiusOf, readingOf, quantised}
-use Rattle.field.specs.Kernel.{threshold, kernelOf}
+use Rattle.extent.specs.declared.Extent.{Extent}
+use Rattle.extent.specs.Extent.{meanOf, meanRadius, radiusOf, readingOf, quantised}
+use Rattle.extent.specs.Kernel.{threshold, kernelOf}
 use Rattle.lists.specs.Lists.{bit}
 use Rattle.selector.specs.declared.RegionHorizontalState.{RegionHorizontalState}
 use Rattle.selector.specs.declared.RegionHorizontalState.the-variants.{NoConstraints, BackExcluded, SideExcluded, CentreAndBack, ScreenOnly, SurroundOnly}

@@ -1,6 +1,3 @@
-pub mod Tests
-pub mod Extents
-pub mod Shaping
 pub mod Patching
 pub mod Tables
 pub mod ResponseOrder
@@ -14,6 +11,3 @@ pub mod PlaceResponses
 pub mod PlaceRows
 pub mod PlaceNumbers
 pub mod PlaceClear
-pub mod Lookups
-pub mod DiffuseSigns
-pub mod GainBounds

@@ -14,7 +14,7 @@ use Rattle.doubles.specs.Arithmetic.{zero as zero64}
 use Rattle.layout.specs.declared.Layout.{Layout}
 use Rattle.layout.specs.Channels.{activeNames, activeCount}
 use Rattle.layout.specs.Topology.{TopologyLayer, topologyOf}
-use Rattle.field.specs.Kernel.{kernelOf, exponentOf}
+use Rattle.extent.specs.Kernel.{kernelOf, exponentOf}
 use Rattle.field.specs.Knots.{Axis, X, Y, Z, isZ, sampleCount, sample, centreKnot, radiusKnot}
 use Rattle.field.specs.Responses.{responseOn}
 use Rattle.field.specs.Patched.{patched, within, either}

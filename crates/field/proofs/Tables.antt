@@ -17,7 +17,7 @@ use Rattle.doubles.specs.Log2.{log2Of}
 use Rattle.doubles.proofs.Signs.{clear}
 use Rattle.doubles.proofs.Laws.{add-fits, mul-fits, add-clear, exp2-clear}
 use Rattle.layout.specs.Topology.{TopologyLayer}
-use Rattle.field.specs.Kernel.{positive, kernelOf, shapedOf, exponentOf}
+use Rattle.extent.specs.Kernel.{positive, kernelOf, shapedOf, exponentOf}
 use Rattle.field.specs.Knots.{Axis, X, Y, isZ, sampleCount, sample, centreKnot, radiusKnot}
 use Rattle.field.specs.Responses.{responseOn}
 use Rattle.field.specs.Patched.{patched, within, either}

@@ -1,11 +1,5 @@
-pub mod Extent
-pub mod Kernel
 pub mod Knots
 pub mod Responses
 pub mod Patched
 pub mod Tables
 pub mod Place
-pub mod Lookup
-pub mod Walls
-pub mod Diffuse
-pub mod Gains

@@ -8,7 +8,7 @@ use lib.ListN.{getD}
 use Rattle.doubles.specs.Arithmetic.{_⊕_, _⊗_}
 use Rattle.doubles.specs.Arithmetic.{zero as zero64}
 use Rattle.layout.specs.Topology.{TopologyLayer}
-use Rattle.field.specs.Kernel.{kernelOf, shapedOf, exponentOf}
+use Rattle.extent.specs.Kernel.{kernelOf, shapedOf, exponentOf}
 use Rattle.field.specs.Knots.{Axis, X, Y, isZ, sampleCount, sample, centreKnot, radiusKnot}
 use Rattle.field.specs.Responses.{responseOn}
 use Rattle.field.specs.Patched.{within}

@@ -3,15 +3,15 @@ ghost use mathlib.Core.Path.{_≡_};
 ghost use Prim.Native.Nat.{ℕ, _+_, _-_, _*_, _/_, _%_, _≤_, _<_};
 ghost use lib.Ieee.{nan};
 ghost use lib.ListN.{length, getD};
-ghost use Rattle.field.specs.Kernel.{kernelOf};
+ghost use Rattle.extent.specs.Kernel.{kernelOf};
 ghost use Rattle.field.specs.Knots.{Z, steps};
 ghost use Rattle.field.specs.Tables.{sampledOver, knotNumber, numberXY, row};
 ghost use Rattle.field.specs.Patched.{patched, within, either};
-use crate::kernel::compact_quartic_kernel;
-use crate::kernel::shaped;
-use crate::kernel::shaping_exponent;
 use crate::knots::radius_knot;
 use crate::knots::step;
+use extent::compact_quartic_kernel;
+use extent::shaped;
+use extent::shaping_exponent;
 
 // The kernel at each sample.
 fn kernels(out: &mut [f64], samples: usize, center: f64, radius: f64, z: bool)

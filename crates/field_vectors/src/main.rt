@@ -12,9 +12,9 @@
 //
 // Two commands are for timing: 923 fills place 0 that many times, and 941 projects over it that many
 // times, the centre moving a little each time.
-use field::Centre;
-use field::Extent;
-use field::Reading;
+use extent::Extent;
+use extent::Reading;
+use gains::Centre;
 use layout::Anchor;
 use layout::Channel;
 use layout::Layout;
@@ -220,7 +220,7 @@ fn lines_of(gains: &[f64; 24], n: usize) {
 
 fn project(store: &[f64], l: Layout, o: Object, p: usize) {
     let e = o.extent;
-    let r = field::read_extent(e);
+    let r = extent::read_extent(e);
     match r {
         Reading::Refused(q) => {
             io::print_decimal(STDOUT_FILENO, q);
@@ -240,7 +240,7 @@ fn gains_of(store: &[f64], l: Layout, o: Object, p: usize, mean: u64, radius: f6
     let points = o.points;
     let n = layout::active_count(l);
     let c = o.centre;
-    if field::project(
+    if gains::project(
         &mut gains,
         store,
         p,
@@ -320,7 +320,7 @@ fn project_once(
 ) {
     let points = o.points;
     let c = moved(o.centre, turn);
-    field::project(gains, store, 0, n, deep, mean, radius, c, &points);
+    gains::project(gains, store, 0, n, deep, mean, radius, c, &points);
 }
 
 fn project_turns(
@@ -343,7 +343,7 @@ fn project_turns(
 
 fn project_often(store: &[f64], l: Layout, o: Object, count: u64) {
     let e = o.extent;
-    let r = field::read_extent(e);
+    let r = extent::read_extent(e);
     match r {
         Reading::Refused(_) => {}
         Reading::Read(mean, radius) => {

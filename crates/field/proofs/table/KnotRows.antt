@@ -6,7 +6,7 @@ use mathlib.Core.List.{List}
 use native.Mathlib.Omega.{arith}
 use lib.Ieee.{Float, nan}
 use lib.ListN.{length, getD}
-use Rattle.field.specs.Kernel.{kernelOf, exponentOf}
+use Rattle.extent.specs.Kernel.{kernelOf, exponentOf}
 use Rattle.field.specs.Knots.{Axis, X, Y, Z, isZ, sampleCount, sample, centreKnot, radiusKnot}
 use Rattle.field.specs.Patched.{patched, within, either}
 use Rattle.field.specs.Tables.{sampledOver, knotNumber, numberXY, row}

@@ -1,4 +1,4 @@
-//! Times `field` beside the original in one run: `field_bench PROGRAM`, PROGRAM being the compiled
+//! Times `field` and `gains` beside the original in one run: `field_bench PROGRAM`, PROGRAM being the compiled
 //! crates/field_vectors. Each time is the difference of two runs that differ in their number of turns.
 use oracle::{extent::open, random::Random, rooms, SpatialDescriptor, SpatialLayout, SpatialSourceClass};
 use std::{

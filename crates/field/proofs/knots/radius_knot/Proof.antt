@@ -2,7 +2,7 @@
 use mathlib.Core.Path.{refl}
 use native.Mathlib.Omega.{arith}
 use lib.Ieee.{ofBits, round, ofInt}
-use Rattle.field.proofs.knots.Casts.{casts}
+use Rattle.extent.proofs.Casts.{casts}
 use Rattle.field.proofs.knots.radius_knot.Statement.{statement}
 use Rattle.field.proofs.knots.radius_knot.Tie as tie
 

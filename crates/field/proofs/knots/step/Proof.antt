@@ -1,7 +1,7 @@
 -- `field::knots::step` meets its contract. Assumes nothing.
 use borrow.Author.Needs.{needs}
 use native.Mathlib.Omega.{arith}
-use Rattle.field.proofs.knots.Casts.{casts}
+use Rattle.extent.proofs.Casts.{casts}
 use Rattle.field.proofs.knots.step.Statement.{statement}
 use Rattle.field.proofs.knots.step.Tie as tie
 

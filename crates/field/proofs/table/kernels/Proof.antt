@@ -4,7 +4,7 @@ use Prim.Native.Nat.{ℕ, _-_, _≤_, zero-le}
 use native.Mathlib.Omega.{arith}
 use borrow.Author.Needs.{needs}
 use lib.ListN.{length, length-set}
-use Rattle.field.specs.Kernel.{kernelOf}
+use Rattle.extent.specs.Kernel.{kernelOf}
 use Rattle.field.specs.Knots.{steps}
 use Rattle.field.specs.Patched.{patched, within}
 use Rattle.field.proofs.Patching.{within-none, within-more}

@@ -1,0 +1,5 @@
+pub mod Tests
+pub mod Casts
+pub mod RadiusBounds
+pub mod Extents
+pub mod Shaping

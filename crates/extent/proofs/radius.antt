@@ -1,0 +1,4 @@
+pub mod Cut
+pub mod Ranges
+pub mod Transfer
+pub mod Product

@@ -1,0 +1,78 @@
+-- Reading an extent: document 01, 'Extent'. Definitions only.
+use Prim.Native.Nat.{ℕ, _+_, _/_, min}
+use mathlib.Core.Bool.{Bool, _&&_, cond}
+use mathlib.Core.List.{List, [], _∷_}
+use lib.IntN.{pos}
+use lib.Ieee.{Float, binary64, le, toUnsigned}
+use lib.Ieee.Scale.{finite}
+use lib.ListN.{getD}
+use Rattle.doubles.specs.Arithmetic.{_⊕_, _⊖_, _⊗_, _⊘_, dec, whole, zero, one}
+use Rattle.doubles.specs.Floor.{floorOf}
+use Rattle.doubles.specs.Range.{between, clampTo}
+use Rattle.extent.specs.declared.Extent.{Extent}
+use Rattle.extent.specs.declared.Reading.{Reading}
+use Rattle.extent.specs.declared.Reading.the-variants.{Refused, Read}
+
+-- 7. Is each extent component finite and from 0 to 1?
+abbrev pub component : Float → Bool
+component v = finite v && between zero one v
+
+abbrev pub question7 : Extent → Bool
+question7 e = component (e .x) && component (e .y) && component (e .z)
+
+-- q = floor(v × 32768 + 0.5), at most 32767. The product is exact, so the sum is rounded once.
+unfoldable pub quantised : Float → ℕ
+unfolding floorOf
+quantised v = min (toUnsigned 64 (floorOf binary64 (v ⊗ whole (pos 32768) ⊕ dec 5 1))) 32767
+
+-- the mean in whole numbers
+abbrev pub meanOf : Extent → ℕ
+meanOf e = (quantised (e .x) + quantised (e .y) + quantised (e .z)) / 3
+
+-- ---- the radius: by five knots
+pub record Knot : Type 0 where
+  pub scalar : Float
+  pub radius : Float
+
+abbrev pub knot : Float → Float → Knot
+knot s r = record { scalar = s; radius = r }
+
+abbrev pub firstKnot : Knot
+firstKnot = knot zero zero
+
+abbrev pub laterKnots : List Knot
+laterKnots = knot (dec 2 1) (dec 75 3) ∷ knot (dec 5 1) (dec 25 2) ∷ knot (dec 75 2) (dec 45 2) ∷ knot one (dec 7 1) ∷ []
+
+-- the i-th of the five
+abbrev pub knotAt : ℕ → Knot
+knotAt i = getD (firstKnot ∷ laterKnots) i firstKnot
+
+-- between two knots
+abbrev pub radiusBetween : Knot → Knot → Float → Float
+radiusBetween a b s = a .radius ⊕ (s ⊖ a .scalar) ⊘ (b .scalar ⊖ a .scalar) ⊗ (b .radius ⊖ a .radius)
+
+-- by the first knot that s does not exceed
+abbrev pub radiusFrom : Knot → List Knot → Float → Float
+radiusFrom a [] s = a .radius
+radiusFrom a (b ∷ bs) s = cond (le s (b .scalar)) (radiusBetween a b s) (radiusFrom b bs s)
+
+unfoldable pub radiusOf : Float → Float
+unfolding clampTo
+radiusOf scalar = let s = clampTo zero one scalar in cond (le s (firstKnot .scalar)) (firstKnot .radius) (radiusFrom firstKnot laterKnots s)
+
+-- the radius of a mean: scalar = mean / 32768
+abbrev pub meanRadius : ℕ → Float
+meanRadius m = radiusOf (whole (pos m) ⊘ whole (pos 32768))
+
+-- ---- what reading an extent answers, in document 01's numbers: the refusal, 0 where there is none, and then mean and radius
+pub record ExtentNumbers : Type 0 where
+  pub refusal : ℕ
+  pub mean : ℕ
+  pub radius : Float
+
+abbrev pub numbersOf : Reading → ExtentNumbers
+numbersOf (Refused q) = record { refusal = q; mean = 0; radius = zero }
+numbersOf (Read m r) = record { refusal = 0; mean = m; radius = r }
+
+unfoldable pub readingOf : Extent → ExtentNumbers
+readingOf e = cond (question7 e) (record { refusal = 0; mean = meanOf e; radius = meanRadius (meanOf e) }) (record { refusal = 7; mean = 0; radius = zero })

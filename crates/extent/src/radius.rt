@@ -1,0 +1,80 @@
+// Reading an extent: its mean and its radius.
+ghost use mathlib.Core.Path.{_≡_};
+ghost use Prim.Native.Nat.{_+_, _<_};
+ghost use Rattle.extent.specs.Extent.{quantised, meanOf, knotAt, radiusBetween, radiusOf, readingOf, numbersOf};
+use crate::Extent;
+use crate::Reading;
+use doubles::floor;
+use doubles::is_between;
+
+const Q: f64 = 32768.0;
+
+// The knots of the radius: at E[i] it is S[i].
+const E: [f64; 5] = [0.0, 0.2, 0.5, 0.75, 1.0];
+
+const S: [f64; 5] = [0.0, 0.075, 0.25, 0.45, 0.7];
+
+// floor(v * 32768 + 0.5), at most 32767. The product is exact, so the sum is rounded once.
+fn quantise(v: f64) -> u64
+    ensures { λ r. ⌜ r ≡ quantised v ⌝ }
+{
+    let q = floor(v * Q + 0.5);
+    if q >= 32767.0 {
+        32767
+    } else if q > 0.0 {
+        std::num::truncating_f64_to_u64(q)
+    } else {
+        0
+    }
+}
+
+// The radius between knot i and the next.
+fn between(i: usize, scalar: f64) -> f64
+    requires { ⌜ i < 4 ⌝ }
+    ensures { λ r. ⌜ r ≡ radiusBetween (knotAt i) (knotAt (i + 1)) scalar ⌝ }
+{
+    let t = (scalar - E[i]) / (E[i + 1] - E[i]);
+    S[i] + t * (S[i + 1] - S[i])
+}
+
+// The five-knot transfer from a scalar to a radius.
+pub fn extent_radius(scalar: f64) -> f64
+    ensures { λ r. ⌜ r ≡ radiusOf scalar ⌝ }
+{
+    let s = doubles::clamp(scalar, 0.0, 1.0);
+    if s <= E[0] {
+        return S[0];
+    }
+    if s <= E[1] {
+        return between(0, s);
+    }
+    if s <= E[2] {
+        return between(1, s);
+    }
+    if s <= E[3] {
+        return between(2, s);
+    }
+    if s <= E[4] {
+        return between(3, s);
+    }
+    S[4]
+}
+
+// The mean of the three components, 0 to 32767.
+fn mean_of(e: Extent) -> u64
+    ensures { λ r. ⌜ r ≡ meanOf e ⌝ }
+{
+    (quantise(e.x) + quantise(e.y) + quantise(e.z)) / 3
+}
+
+// Question 7, and then the mean and the radius.
+pub fn read_extent(e: Extent) -> Reading
+    ensures { λ r. ⌜ numbersOf r ≡ readingOf e ⌝ }
+{
+    let good = is_between(0.0, 1.0, e.x) & is_between(0.0, 1.0, e.y) & is_between(0.0, 1.0, e.z);
+    if !good {
+        return Reading::Refused(7);
+    }
+    let mean = mean_of(e);
+    Reading::Read(mean, extent_radius((mean as f64) / Q))
+}

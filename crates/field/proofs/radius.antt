@@ -1,5 +1,0 @@
-pub mod Cut
-pub mod Ranges
-pub mod Transfer
-pub mod Product
-pub mod Bounds

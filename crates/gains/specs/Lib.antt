@@ -1,0 +1,4 @@
+pub mod Lookup
+pub mod Walls
+pub mod Diffuse
+pub mod Gains

@@ -1,0 +1,187 @@
+// The two knots about a value, and interpolation between the numbers at four knots.
+ghost use mathlib.Core.Path.{_≡_};
+ghost use mathlib.Core.Bool.{Bool, true, false, _||_};
+ghost use mathlib.Core.List.{_++_};
+ghost use Prim.Native.Nat.{ℕ, _+_, _-_, _*_, _≤_, _<_};
+ghost use lib.Dec.{T, eqb};
+ghost use lib.Ieee.{nan, lt};
+ghost use lib.ListN.{length, getD, drop};
+ghost use Rattle.field.specs.Knots.{steps, radiusKnot};
+ghost use Rattle.gains.specs.Lookup.{listed, channels, radiusKnots, bracketOf, mixed, lookupOf, Found};
+use crate::Bracket;
+use crate::knots::radius_knot;
+use crate::knots::step;
+
+// The knots i / last: the first one from `from` on that is not below value, or the last.
+fn first_step(value: f64, last: usize, from: usize) -> usize
+    requires { ⌜ (1 ≤ from) × (from ≤ last) × (last ≤ 34) × (lt (steps last (from - 1)) value ≡ true) ⌝ }
+    ensures { λ r. ⌜ Found (steps last) last value r ⌝ }
+{
+    let mut i = from;
+    while i < last {
+        if !(step(i, last) < value) {
+            return i;
+        }
+        i += 1;
+    }
+    last
+}
+
+// A guess at the knot below value: its share of the knots, cut to a whole number.
+fn guessed(share: f64, last: usize) -> usize
+    requires { ⌜ 1 ≤ last ⌝ }
+    ensures { λ r. ⌜ r < last ⌝ }
+{
+    if (share > 0.0) & (share < 64.0) {
+        let g = std::num::truncating_f64_to_u64(share) as usize;
+        if g < last {
+            return g;
+        }
+    }
+    0
+}
+
+// A knot below value, near the guess; 0 where neither it nor the one before is below.
+fn below_near(value: f64, last: usize, g: usize) -> usize
+    requires { ⌜ (g < last) × (last ≤ 34) × (lt (steps last 0) value ≡ true) ⌝ }
+    ensures { λ r. ⌜ (r < last) × (lt (steps last r) value ≡ true) ⌝ }
+{
+    if step(g, last) < value {
+        return g;
+    }
+    if 0 < g {
+        if step(g - 1, last) < value {
+            return g - 1;
+        }
+    }
+    0
+}
+
+// The knots about value among i / last: the end one at or beyond an end. A NaN stays a NaN.
+pub fn bracket(value: f64, last: usize) -> Bracket
+    requires { ⌜ T (eqb last 34 || eqb last 3) ⌝ }
+    ensures { λ r. ⌜ r ≡ bracketOf (listed (steps last) (last + 1)) value ⌝ }
+{
+    if value <= 0.0 {
+        return Bracket {
+            lower: 0,
+            upper: 0,
+            t: 0.0,
+        };
+    }
+    if !(value > 0.0) {
+        return Bracket {
+            lower: 0,
+            upper: 0,
+            t: value,
+        };
+    }
+    if value >= 1.0 {
+        return Bracket {
+            lower: last,
+            upper: last,
+            t: 0.0,
+        };
+    }
+    let g = guessed(value * (last as f64), last);
+    let k = first_step(value, last, below_near(value, last, g) + 1);
+    let a = step(k - 1, last);
+    Bracket {
+        lower: k - 1,
+        upper: k,
+        t: (value - a) / (step(k, last) - a),
+    }
+}
+
+// The radius knots: the first one from `from` on that is not below value, or the last.
+fn first_radius(value: f64, from: usize) -> usize
+    requires { ⌜ (1 ≤ from) × (from ≤ 19) × (lt (radiusKnot (from - 1)) value ≡ true) ⌝ }
+    ensures { λ r. ⌜ Found radiusKnot 19 value r ⌝ }
+{
+    let mut i = from;
+    while i < 19 {
+        if !(radius_knot(i) < value) {
+            return i;
+        }
+        i += 1;
+    }
+    19
+}
+
+// A radius knot below value, near the guess.
+fn radius_below_near(value: f64, g: usize) -> usize
+    requires { ⌜ (g < 19) × (lt (radiusKnot 0) value ≡ true) ⌝ }
+    ensures { λ r. ⌜ (r < 19) × (lt (radiusKnot r) value ≡ true) ⌝ }
+{
+    if radius_knot(g) < value {
+        return g;
+    }
+    if 0 < g {
+        if radius_knot(g - 1) < value {
+            return g - 1;
+        }
+    }
+    0
+}
+
+// The same for the radius knots.
+pub fn radius_bracket(value: f64) -> Bracket
+    ensures { λ r. ⌜ r ≡ bracketOf radiusKnots value ⌝ }
+{
+    if value <= 0.0 {
+        return Bracket {
+            lower: 0,
+            upper: 0,
+            t: 0.0,
+        };
+    }
+    if !(value > 0.0) {
+        return Bracket {
+            lower: 0,
+            upper: 0,
+            t: value,
+        };
+    }
+    if value >= radius_knot(19) {
+        return Bracket {
+            lower: 19,
+            upper: 19,
+            t: 0.0,
+        };
+    }
+    let g = guessed(value * 27.142857142857142, 19);
+    let k = first_radius(value, radius_below_near(value, g) + 1);
+    let a = radius_knot(k - 1);
+    Bracket {
+        lower: k - 1,
+        upper: k,
+        t: (value - a) / (radius_knot(k) - a),
+    }
+}
+
+// a at t = 0 to b at t = 1.
+fn mix(a: f64, b: f64, t: f64) -> f64
+    ensures { λ r. ⌜ r ≡ mixed a b t ⌝ }
+{
+    a + t * (b - a)
+}
+
+// The numbers of n channels between four knots, radius first, from a table that begins at `from`.
+pub fn lookup(out: &mut [f64; 24], store: &[f64], from: usize, n: usize, c: Bracket, r: Bracket)
+    requires { ⌜ (n ≤ 24) × (c .lower ≤ c .upper) × (c .upper ≤ 34) × (r .lower ≤ r .upper) × (r .upper ≤ 19) ⌝ }
+    requires { ⌜ from + (c .upper * 20 + 20) * n ≤ length (now store) ⌝ }
+    ensures { λ _. ⌜ now (out .exit) ≡ channels n (λ (k : ℕ). lookupOf (λ (i : ℕ). getD (now (store .entry)) (from + (i * n + k)) nan) c r) ++ drop n (now (out .entry)) ⌝ }
+{
+    let numbers: &mut [f64] = out;
+    let p = from + (c.lower * 20 + r.lower) * n;
+    let q = from + (c.lower * 20 + r.upper) * n;
+    let u = from + (c.upper * 20 + r.lower) * n;
+    let v = from + (c.upper * 20 + r.upper) * n;
+    let mut k = 0usize;
+    while k < n {
+        let lower = mix(store[p + k], store[q + k], r.t);
+        let upper = mix(store[u + k], store[v + k], r.t);
+        numbers[k] = mix(lower, upper, c.t);
+        k += 1;
+    }
+}
