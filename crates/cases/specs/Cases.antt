@@ -12,15 +12,15 @@ use Rattle.extent.specs.declared.Extent.{Extent}
 use Rattle.extent.specs.Extent.{meanOf, meanRadius, radiusOf, readingOf, quantised}
 use Rattle.extent.specs.Kernel.{threshold, kernelOf}
 use Rattle.lists.specs.Lists.{bit}
-use Rattle.selector.specs.declared.RegionHorizontalState.{RegionHorizontalState}
-use Rattle.selector.specs.declared.RegionHorizontalState.the-variants.{NoConstraints, BackExcluded, SideExcluded, CentreAndBack, ScreenOnly, SurroundOnly}
-use Rattle.selector.specs.declared.RegionTopBottomState.the-variants.{Exclude}
-use Rattle.selector.specs.declared.Zones.{Zones}
-use Rattle.selector.specs.declared.Zones.the-variants.{State, Refused}
-use Rattle.selector.specs.declared.Bed.{Bed}
-use Rattle.selector.specs.declared.Bed.the-variants.{Kept, Dropped, Unclassed}
-use Rattle.selector.specs.Zones.{zonesOf, isInclude}
-use Rattle.selector.specs.Classes.{bedOf}
+use Rattle.region.specs.declared.RegionHorizontalState.{RegionHorizontalState}
+use Rattle.region.specs.declared.RegionHorizontalState.the-variants.{NoConstraints, BackExcluded, SideExcluded, CentreAndBack, ScreenOnly, SurroundOnly}
+use Rattle.region.specs.declared.RegionTopBottomState.the-variants.{Exclude}
+use Rattle.region.specs.declared.Zones.{Zones}
+use Rattle.region.specs.declared.Zones.the-variants.{State, Refused}
+use Rattle.region.specs.declared.Bed.{Bed}
+use Rattle.region.specs.declared.Bed.the-variants.{Kept, Dropped, Unclassed}
+use Rattle.region.specs.Zones.{zonesOf, isInclude}
+use Rattle.region.specs.Classes.{bedOf}
 
 pub record Case : Type 0 where
   pub found : ℕ

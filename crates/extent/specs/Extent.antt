@@ -64,7 +64,11 @@ radiusOf scalar = let s = clampTo zero one scalar in cond (le s (firstKnot .scal
 abbrev pub meanRadius : ℕ → Float
 meanRadius m = radiusOf (whole (pos m) ⊘ whole (pos 32768))
 
--- ---- what reading an extent answers, in document 01's numbers: the refusal, 0 where there is none, and then mean and radius
+-- ---- what reading an extent answers: refusal 7, or mean and radius
+abbrev pub readOf : Extent → Reading
+readOf e = cond (question7 e) (Read (meanOf e) (meanRadius (meanOf e))) (Refused 7)
+
+-- the same in document 01's numbers: the refusal, 0 where there is none, and then mean and radius
 pub record ExtentNumbers : Type 0 where
   pub refusal : ℕ
   pub mean : ℕ

@@ -1,7 +1,7 @@
 // Reading an extent: its mean and its radius.
 ghost use mathlib.Core.Path.{_≡_};
 ghost use Prim.Native.Nat.{_+_, _<_};
-ghost use Rattle.extent.specs.Extent.{quantised, meanOf, knotAt, radiusBetween, radiusOf, readingOf, numbersOf};
+ghost use Rattle.extent.specs.Extent.{quantised, meanOf, knotAt, radiusBetween, radiusOf, readOf, readingOf, numbersOf};
 use crate::Extent;
 use crate::Reading;
 use doubles::floor;
@@ -69,7 +69,8 @@ fn mean_of(e: Extent) -> u64
 
 // Question 7, and then the mean and the radius.
 pub fn read_extent(e: Extent) -> Reading
-    ensures { λ r. ⌜ numbersOf r ≡ readingOf e ⌝ }
+    ensures { λ r. ⌜ r ≡ readOf e ⌝ }
+    ensures numbers { λ r. ⌜ numbersOf r ≡ readingOf e ⌝ }
 {
     let good = is_between(0.0, 1.0, e.x) & is_between(0.0, 1.0, e.y) & is_between(0.0, 1.0, e.z);
     if !good {

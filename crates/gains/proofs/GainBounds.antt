@@ -92,7 +92,7 @@ clamp-fits : (x : Float) → T (fits binary64 x) → T (fits binary64 (clampTo z
 unfolding clampTo fits
 clamp-fits x h = cond-fits binary64 (lt x zero64) zero64 (cond (lt one x) one x) tt (cond-fits binary64 (lt one x) one x tt h)
 
-clamped-fits : (c : Centre) → CentreFits c → CentreFits (clampedCentre c)
+pub clamped-fits : (c : Centre) → CentreFits c → CentreFits (clampedCentre c)
 clamped-fits c h = (clamp-fits (c .x) (h .0), clamp-fits (c .y) (h .1), clamp-fits (c .z) (h .2))
 
 -- ---- all of them: the numbers of the tables are clear doubles, and the point gains are n numbers that are finite and from 0 to 5/4

@@ -1,3 +1,4 @@
-pub mod Zones
-pub mod Classes
-pub mod Select
+pub mod Keys
+pub mod Call
+pub mod Steps
+pub mod Rule

@@ -1,71 +1,124 @@
-// Regions: what the zone flags say, which speakers a region keeps, and the layout of those kept.
+// The selector: eight kept fields, and the call for gains.
 ghost use mathlib.Core.Path.{_≡_};
-ghost use Rattle.selector.specs.Zones.{defaultState};
+ghost use Rattle.selector.specs.Call.{outcomeOf, answerOf};
+ghost use Rattle.selector.specs.Steps.{callBy, freshSelector, foundIn, selectorOf};
+ghost use Rattle.selector.specs.Rule.{SelectorLaw};
 
-mod classes;
-mod region;
-mod select;
+mod asked;
+mod call;
+mod keys;
 
-pub use classes::five_x;
-pub use classes::is_22_2;
-pub use classes::matches_bed_state;
-pub use region::from_decoded_zones;
-pub use region::is_default;
-pub use region::to_decoded_zones;
+pub use call::project_outcome_with_epoch;
+use extent::Extent;
+use gains::Centre;
+use layout::Layout;
 
-pub enum RegionHorizontalState {
-    NoConstraints,
-    BackExcluded,
-    SideExcluded,
-    CentreAndBack,
-    ScreenOnly,
-    SurroundOnly,
+// What an accepted call says of its field.
+pub enum Word {
+    Unused,
+    Kept,
+    Built,
 }
 
-pub enum RegionTopBottomState {
-    Include,
-    Exclude,
+// The answer of a call: the number of the refusal, or how many gains and a word.
+pub enum Outcome {
+    Refused(u64),
+    Gains(usize, Word),
 }
 
-// A horizontal state with a top state beside it.
-pub struct RegionSemanticState {
-    pub horizontal: RegionHorizontalState,
-    pub top: RegionTopBottomState,
+// How many keys a selector holds, and which place is the oldest.
+pub struct Ring {
+    pub count: usize,
+    pub oldest: usize,
 }
 
-impl RegionSemanticState {
-    // The state that selects the layout itself.
-    pub const DEFAULT: RegionSemanticState = RegionSemanticState {
-        horizontal: RegionHorizontalState::NoConstraints,
-        top: RegionTopBottomState::Include,
-    };
+// What a call answers, with the ring that it leaves.
+pub struct Reply {
+    pub outcome: Outcome,
+    pub ring: Ring,
+}
 
-    pub fn default() -> RegionSemanticState
-        ensures { λ r. ⌜ r ≡ defaultState ⌝ }
+// A selector: the numbers of eight keys, 156 to a key, how many are held, and the oldest place.
+pub struct Selector {
+    pub words: [u64; 1248],
+    pub count: usize,
+    pub oldest: usize,
+}
+
+// What a call answers, with the selector that it leaves.
+pub struct Replied {
+    pub outcome: Outcome,
+    pub selector: Selector,
+}
+
+impl Selector {
+    // The empty selector.
+    pub fn new() -> Selector
+        ensures { λ r. ⌜ r ≡ freshSelector ⌝ }
     {
-        RegionSemanticState::DEFAULT
+        Selector {
+            words: [0u64; 1248],
+            count: 0,
+            oldest: 0,
+        }
+    }
+
+    // The call for gains, with a selector by value.
+    pub fn project_outcome_with_epoch(
+        self,
+        store: &mut [f64],
+        l: Layout,
+        epoch: u64,
+        e: Extent,
+        flags: [bool; 6],
+        c: Centre,
+        points: &[f64],
+        gains: &mut [f64],
+    ) -> Replied
+        ensures { λ r. ⌜ r ≡ record { outcome = outcomeOf (answerOf (callBy l epoch e flags c (now (points .entry)) (now (gains .entry))) (foundIn self (now (store .entry)))); selector = selectorOf (answerOf (callBy l epoch e flags c (now (points .entry)) (now (gains .entry))) (foundIn self (now (store .entry)))) } ⌝ }
+        ensures store { λ r. ⌜ now (store .exit) ≡ answerOf (callBy l epoch e flags c (now (points .entry)) (now (gains .entry))) (foundIn self (now (store .entry))) .found .store ⌝ }
+        ensures gains { λ r. ⌜ now (gains .exit) ≡ answerOf (callBy l epoch e flags c (now (points .entry)) (now (gains .entry))) (foundIn self (now (store .entry))) .gains ⌝ }
+    {
+        let mut words = self.words;
+        let r = Ring {
+            count: self.count,
+            oldest: self.oldest,
+        };
+        let reply = project_outcome_with_epoch(
+            &mut words,
+            r,
+            store,
+            l,
+            epoch,
+            e,
+            flags,
+            c,
+            points,
+            gains,
+        );
+        let outcome = reply.outcome;
+        let ring = reply.ring;
+        Replied {
+            outcome: outcome,
+            selector: Selector {
+                words: words,
+                count: ring.count,
+                oldest: ring.oldest,
+            },
+        }
     }
 }
 
-// What six flags say: a state, or the number of the refusal.
-pub enum Zones {
-    State(RegionSemanticState),
-    Refused(u64),
-}
+// What holds of any list of calls on one selector, from a fresh one and any doubles in the store.
+pub fn selector_law()
+    ensures { λ _. ⌜ SelectorLaw ⌝ }
+{}
 
-// What a region does with a speaker of the bed: it keeps it or drops it, or the speaker has no class.
-pub enum Bed {
-    Kept,
-    Dropped,
-    Unclassed,
-}
-
-// The classes of a speaker; `classed` is false where its name has none.
-pub struct Speaker {
-    pub classed: bool,
-    pub screen: bool,
-    pub centre: bool,
-    pub surround: bool,
-    pub back: bool,
-    pub side: bool,
+// What the first ten questions leave of a call: the number of the first no, 0 where there is none, and
+// then the selected layout, the mean and the radius.
+struct Plan {
+    refusal: u64,
+    layout: Layout,
+    mean: u64,
+    radius: f64,
 }

@@ -115,7 +115,12 @@ pub mod region {
 
     /// What the selector keeps to itself, for the drivers.
     pub mod open {
-        use super::{RegionTopologySelector, SpatialDescriptor, SpatialLayout, SpatialProjectionError};
+        use super::{RegionHorizontalState, RegionTopologySelector, SpatialDescriptor, SpatialLayout, SpatialProjectionError};
+
+        /// Whether a horizontal state keeps the speaker of a name; none where it has no class.
+        pub fn bed(state: RegionHorizontalState, name: &str, five_x: bool) -> Option<bool> {
+            super::matches_bed_state(state, name, five_x).ok()
+        }
 
         /// A call for gains.
         pub fn gains(

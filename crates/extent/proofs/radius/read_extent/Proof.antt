@@ -7,7 +7,7 @@ use lib.Ieee.{ofBits, ofInt, round}
 use Rattle.extent.specs.Extent.{question7}
 use Rattle.extent.proofs.Tests.{turned}
 use Rattle.extent.proofs.Casts.{casts}
-use Rattle.extent.proofs.radius.Ranges.{question-is, reading-yes, reading-no, mean-le}
+use Rattle.extent.proofs.radius.Ranges.{question-is, read-yes, read-no, reading-yes, reading-no, mean-le}
 use Rattle.extent.proofs.radius.read_extent.Statement.{statement}
 use Rattle.extent.proofs.radius.read_extent.Tie as tie
 
@@ -20,7 +20,10 @@ unfolding ofBits
 test-is c = question-is _ _ _ _ (c .before .before .is-between .ensures) (c .before .is-between2 .ensures) (c .is-between3 .ensures)
 
 returns : tie.Need-returns
-returns c = sym (reading-no _ (sym (test-is (c .before)) ∙ turned _ _ (c .if1 .taken)))
+returns c =
+    let e = c .before .before .before .before .args .e in
+    let n = sym (test-is (c .before)) ∙ turned _ _ (c .if1 .taken) in
+    (sym (read-no e n), sym (reading-no e n))
 
 int-to-float-extent-radius : tie.Need-int-to-float-extent-radius
 int-to-float-extent-radius c =
@@ -32,7 +35,9 @@ unfolding ofBits ofInt round
 returns-2 c =
     let m = c .before .before in
     let t = m .before in
-    rw (c .extent-radius .ensures, m .mean-of .ensures) (sym (reading-yes _ (sym (test-is (t .before)) ∙ turned _ _ (t .if1 .left))))
+    let e = t .before .before .before .before .args .e in
+    let y = sym (test-is (t .before)) ∙ turned _ _ (t .if1 .left) in
+    rw (c .extent-radius .ensures, m .mean-of .ensures) (sym (read-yes e y), sym (reading-yes e y))
 
 pub read-extent-spec : {M : Type 1} → statement M
 read-extent-spec =

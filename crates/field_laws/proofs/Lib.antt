@@ -1,0 +1,7 @@
+pub mod Filling
+pub mod PlaceGains
+pub mod SameDifferences
+pub mod SameTopologies
+pub mod SamePicks
+pub mod SameResponses
+pub mod SamePlaces

@@ -1,0 +1,4 @@
+pub mod Zones
+pub mod Classes
+pub mod Select
+pub mod Selection

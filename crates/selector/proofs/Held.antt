@@ -1,0 +1,118 @@
+-- What a selector holds: for each key of the kept list, its numbers and its field, in the key's place. Assumes nothing.
+use Prim.Native.Nat.{ℕ, _+_, _%_, _≤_, _<_}
+use mathlib.Core.Path.{_≡_, refl, sym, ap, _∙_, subst}
+use mathlib.Core.Bool.{Bool, true, false, _&&_, _||_, cond}
+use mathlib.Core.List.{List, [], _∷_, _++_, map}
+use native.Mathlib.Omega.{arith}
+use borrow.Author.Tests.{le-leb, lt-ltb, le-ltb, eq-eqb, ne-eqb, ltb-true, ltb-false}
+use lib.Dec.{T, eqb, leb, ltb, eqb→eq, eqb-refl}
+use lib.Ieee.{Float, binary64, fits}
+use lib.ListN.{length, getD, drop, length-append, length-drop}
+use Rattle.layout.specs.declared.Layout.{Layout}
+use Rattle.layout.specs.Accepted.{Accepted}
+use Rattle.layout.specs.Build.{emptyLayout}
+use Rattle.layout.specs.Questions.{firstNo, layoutQuestions}
+use Rattle.layout.specs.Same.{sameLayout}
+use Rattle.layout.proofs.Sizes.{Sized}
+use Rattle.field.specs.Place.{filled}
+use Rattle.field.proofs.PlaceNumbers.{filled-length}
+use Rattle.field_laws.proofs.Filling.{fill-twice, fill-other}
+use Rattle.field_laws.proofs.SameTopologies.{Doubles}
+use Rattle.field_laws.proofs.SamePlaces.{same-filled}
+use Rattle.selector.specs.Keys.{keyWords, keyAt, withKey, upTo}
+use Rattle.selector.specs.Call.{Call, Found, question14, newPlace}
+use Rattle.selector.specs.Rule.{Key, packedKey, sameKey, KeptList, heldKeys, none, fresh}
+use Rattle.selector.proofs.Places.{grown, turned, listed-up}
+use Rattle.selector.proofs.KeyLaws.{Sound, key-length, with-length, with-here, with-other}
+
+abbrev pub noKey : Key
+noKey = record { layout = emptyLayout; epoch = 0 }
+
+-- place p has the key's numbers, and its field: to fill it once more changes nothing
+pub record Has (words : List ℕ) (store : List Float) (p : ℕ) (x : Key) : Type 0 where
+  pub numbers : keyAt words p ≡ packedKey x
+  pub field : filled (x .layout) p store ≡ store
+  pub sound : Sound (x .layout)
+
+pub record Holds (k : KeptList) (f : Found) : Type 0 where
+  pub size : length (f .words) ≡ 1248
+  pub count : f .count ≡ length (k .keys)
+  pub few : length (k .keys) ≤ 8
+  pub oldest : f .oldest ≡ k .oldest
+  pub low : k .oldest < 8
+  pub places : (i : ℕ) → i < length (k .keys) → Has (f .words) (f .store) ((k .oldest + i) % 8) (getD (k .keys) i noKey)
+
+-- a fresh selector holds nothing
+pub fresh-holds : (store : List Float) → Holds none (fresh store)
+fresh-holds store = record { size = refl; count = refl; few = omega arith; oldest = refl; low = omega arith; places = λ i h. absurd (omega arith) }
+
+module _ (k : KeptList) (f : Found) (h : Holds k f) where
+  -- question 14 is a yes
+  pub asks-14 : question14 (f .count) (f .oldest) ≡ true
+  asks-14 = rw (h .count, h .oldest, le-leb (length (k .keys)) 8 (h .few), lt-ltb (k .oldest) 8 (h .low))
+
+  -- the numbers held are those of the keys
+  pub holds-keys : heldKeys f ≡ map packedKey (k .keys)
+  holds-keys =
+      listed-up (λ (i : ℕ). keyAt (f .words) ((f .oldest + i) % 8)) packedKey noKey (k .keys) (f .count) (sym (h .count)) (omega (arith, h .count, h .few))
+      (λ i l. ap (λ (o : ℕ). keyAt (f .words) ((o + i) % 8)) (h .oldest) ∙ h .places i (omega (arith, h .count)) .numbers)
+
+-- ---- one more key in its place
+module _ (k : KeptList) (f : Found) (h : Holds k f) (x : Key) (s : Sound (x .layout)) where
+  abbrev at : ℕ
+  at = (k .oldest + length (k .keys)) % 8
+
+  abbrev words : List ℕ
+  words = withKey (f .words) at (packedKey x)
+
+  abbrev store : List Float
+  store = filled (x .layout) at (f .store)
+
+  key-long : length (packedKey x) ≡ 156
+  key-long = key-length (x .layout) (s .sized) (x .epoch)
+
+  at-low : at < 8
+  at-low = omega arith
+
+  here : Has words store at x
+  here =
+      record {
+        numbers = with-here (f .words) at (packedKey x) (h .size) at-low key-long;
+        field = fill-twice (x .layout) at (f .store);
+        sound = s;
+      }
+
+  there : (q : ℕ) (y : Key) → q < 8 → (q ≡ at → ⊥) → Has (f .words) (f .store) q y → Has words store q y
+  there q y l n p =
+      record {
+        numbers = with-other (f .words) at (packedKey x) (h .size) at-low key-long q (λ e. n (sym e)) ∙ p .numbers;
+        field = fill-other (y .layout) (x .layout) q at (f .store) n (p .sound .accepted .someActive) (p .sound .accepted .fewActive) (s .accepted .someActive) (s .accepted .fewActive) (p .field);
+        sound = p .sound;
+      }
+
+  long : length words ≡ 1248
+  long = with-length (f .words) at (packedKey x) (h .size) at-low key-long
+
+  -- where there is room
+  pub grown-holds : length (k .keys) < 8 → Holds (record { keys = k .keys ++ (x ∷ []); oldest = k .oldest }) (record { words = words; count = length (k .keys) + 1; oldest = k .oldest; store = store })
+  grown-holds room =
+      record {
+        size = long;
+        count = simp length-append (omega arith);
+        few = simp length-append (omega arith);
+        oldest = refl;
+        low = h .low;
+        places = grown noKey (Has (f .words) (f .store)) (Has words store) (k .oldest) x (k .keys) (h .low) here there (h .places) room;
+      }
+
+  -- where the oldest is dropped
+  pub turned-holds : length (k .keys) ≡ 8 → Holds (record { keys = drop 1 (k .keys) ++ (x ∷ []); oldest = (k .oldest + 1) % 8 }) (record { words = words; count = length (k .keys); oldest = (k .oldest + 1) % 8; store = store })
+  turned-holds full =
+      record {
+        size = long;
+        count = simp (length-append, length-drop) (omega arith);
+        few = simp (length-append, length-drop) (omega arith);
+        oldest = refl;
+        low = omega arith;
+        places = turned noKey (Has (f .words) (f .store)) (Has words store) (k .oldest) x (k .keys) (h .low) here there (h .places) full;
+      }

@@ -1,0 +1,107 @@
+-- Keys compared word by word, and the search through the places from the oldest on.
+use Prim.Native.Nat.{ℕ, zero, suc, _+_, _%_, _<_, _≤_}
+use mathlib.Core.Path.{_≡_, refl, sym, ap, ap₂, _∙_}
+use mathlib.Core.Bool.{Bool, true, false, _&&_, true≢false}
+use mathlib.Core.List.{List, [], _∷_}
+use native.Mathlib.Nat.{add-zero, add-assoc}
+use native.Mathlib.Omega.{arith}
+use borrow.Author.Tests.{eq-eqb, ne-eqb, eqb-true}
+use lib.Dec.{eqb}
+use lib.ListN.{length, take, drop, getD}
+use lib.Seq.{slice, take-all, getD-drop, getD-take}
+use Rattle.lists.specs.Lists.{allSame}
+use Rattle.lists.proofs.Loops.{slice-more, slice-done}
+use Rattle.lists.proofs.Same.{same-next, same-not}
+use Rattle.selector.specs.Keys.{keyAt, findFrom, upTo}
+
+-- ---- equal word by word is equal
+and-both : (a b : Bool) → (a && b) ≡ true → (a ≡ true) × (b ≡ true)
+and-both true b e = (refl, e)
+and-both false b e = absurd (true≢false (sym e))
+
+pub same-equal : (xs ys : List ℕ) → allSame eqb xs ys ≡ true → xs ≡ ys
+same-equal [] [] e = refl
+same-equal [] (y ∷ ys) e = absurd (true≢false (sym e))
+same-equal (x ∷ xs) [] e = absurd (true≢false (sym e))
+same-equal (x ∷ xs) (y ∷ ys) e =
+    let p = and-both (eqb x y) (allSame eqb xs ys) e in
+    ap₂ (λ (a : ℕ) (r : List ℕ). a ∷ r) (eqb-true x y (p .0)) (same-equal xs ys (p .1))
+
+pub equal-same : (xs : List ℕ) → allSame eqb xs xs ≡ true
+equal-same [] = refl
+equal-same (x ∷ xs) = rw (eq-eqb x x refl, equal-same xs)
+
+pub not-same : (xs ys : List ℕ) → (xs ≡ ys → ⊥) → allSame eqb xs ys ≡ false
+not-same xs ys n = go (allSame eqb xs ys) refl
+  where
+    go : (b : Bool) → allSame eqb xs ys ≡ b → allSame eqb xs ys ≡ false
+    go true e = absurd (n (same-equal xs ys e))
+    go false e = e
+
+-- ---- a loop that compares the key with the words from a place on
+pub record Compared (words : List ℕ) (from : ℕ) (key : List ℕ) (i : ℕ) : Type 0 where
+  pub reached : i ≤ 156
+  pub room : from + 156 ≤ length words
+  pub long : length key ≡ 156
+  pub same : allSame eqb (slice (from + i) (from + 156) words) (slice i 156 key) ≡ allSame eqb (slice from (from + 156) words) key
+
+module _ (words : List ℕ) (from : ℕ) (key : List ℕ) where
+  pub compared-none : from + 156 ≤ length words → length key ≡ 156 → Compared words from key 0
+  compared-none r l = record { reached = omega arith; room = r; long = l; same = rw (add-zero from, take-all 156 key (omega arith)) }
+
+  module _ (i : ℕ) (w : Compared words from key i) where
+    pub compared-differ : i < 156 → (getD words (from + i) 0 ≡ getD key i 0 → ⊥) → false ≡ allSame eqb (slice from (from + 156) words) key
+    compared-differ h q =
+        sym (same-not eqb _ _ _ _ _ _ (slice-more (from + i) (from + 156) words 0 (omega arith) (w .room)) (slice-more i 156 key 0 h (omega arith)) (ne-eqb _ _ q)) ∙ w .same
+
+    pub compared-agree : i < 156 → getD words (from + i) 0 ≡ getD key i 0 → Compared words from key (i + 1)
+    compared-agree h q =
+        let s = same-next eqb _ _ _ _ _ _ (slice-more (from + i) (from + 156) words 0 (omega arith) (w .room)) (slice-more i 156 key 0 h (omega arith)) (eq-eqb _ _ q) in
+        record { reached = omega arith; room = w .room; long = w .long; same = rw (← add-assoc from i 1) (sym s ∙ w .same) }
+
+    pub compared-done : 156 ≤ i → true ≡ allSame eqb (slice from (from + 156) words) key
+    compared-done h = sym (ap₂ (allSame eqb) (slice-done (from + i) (from + 156) words (omega arith)) (slice-done i 156 key (omega arith))) ∙ w .same
+
+  -- one word that differs
+  pub word-differs : (i : ℕ) → i < 156 → (getD words (from + i) 0 ≡ getD key i 0 → ⊥) → false ≡ allSame eqb (slice from (from + 156) words) key
+  word-differs i h q =
+      let at : getD (slice from (from + 156) words) i 0 ≡ getD words (from + i) 0 = getD-drop from (take (from + 156) words) i 0 ∙ getD-take (from + 156) words (from + i) 0 (omega arith) in
+      sym (not-same (slice from (from + 156) words) key (λ e. q (sym at ∙ ap (λ (l : List ℕ). getD l i 0) e)))
+
+-- ---- a loop that looks at the places, from the oldest on
+abbrev pub eight : List ℕ
+eight = 0 ∷ 1 ∷ 2 ∷ 3 ∷ 4 ∷ 5 ∷ 6 ∷ 7 ∷ []
+
+pub eight-at : (i : ℕ) → i < 8 → getD eight i 0 ≡ i
+eight-at zero h = refl
+eight-at (suc zero) h = refl
+eight-at (suc (suc zero)) h = refl
+eight-at (suc (suc (suc zero))) h = refl
+eight-at (suc (suc (suc (suc zero)))) h = refl
+eight-at (suc (suc (suc (suc (suc zero))))) h = refl
+eight-at (suc (suc (suc (suc (suc (suc zero)))))) h = refl
+eight-at (suc (suc (suc (suc (suc (suc (suc zero))))))) h = refl
+eight-at (suc (suc (suc (suc (suc (suc (suc (suc i)))))))) h = absurd (omega arith)
+
+pub upTo-more : (i n : ℕ) → i < n → n ≤ 8 → drop i (upTo n) ≡ i ∷ drop (i + 1) (upTo n)
+upTo-more i n h k = slice-more i n eight 0 h k ∙ ap (λ (j : ℕ). j ∷ drop (i + 1) (upTo n)) (eight-at i (omega arith))
+
+pub upTo-done : (i n : ℕ) → i ≡ n → drop i (upTo n) ≡ []
+upTo-done i n e = slice-done i n eight e
+
+module _ (words key : List ℕ) (p : ℕ) where
+  -- the places from the oldest + i on
+  pub record Finding (n i : ℕ) : Type 0 where
+    pub reached : i ≤ n
+    pub few : n ≤ 8
+    pub same : findFrom words key p (drop i (upTo n)) ≡ findFrom words key p (upTo n)
+
+  module _ (n i : ℕ) (w : Finding n i) where
+    pub finding-here : i < n → allSame eqb (keyAt words ((p + i) % 8)) key ≡ true → (p + i) % 8 ≡ findFrom words key p (upTo n)
+    finding-here h q = sym (rw (upTo-more i n h (w .few), q)) ∙ w .same
+
+    pub finding-next : i < n → allSame eqb (keyAt words ((p + i) % 8)) key ≡ false → Finding n (i + 1)
+    finding-next h q = record { reached = omega arith; few = w .few; same = sym (rw (upTo-more i n h (w .few), q)) ∙ w .same }
+
+    pub finding-done : n ≤ i → 8 ≡ findFrom words key p (upTo n)
+    finding-done h = sym (ap (findFrom words key p) (upTo-done i n (omega arith))) ∙ w .same

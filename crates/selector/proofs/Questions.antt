@@ -1,0 +1,72 @@
+-- Lists of questions, and what an accepted call has said yes to. Assumes nothing.
+use Prim.Native.Nat.{ℕ, _+_, _≤_, _<_}
+use mathlib.Core.Path.{_≡_, refl, sym, ap, _∙_}
+use mathlib.Core.Bool.{Bool, true, false, _&&_, not, cond}
+use mathlib.Core.List.{List, [], _∷_, _++_}
+use native.Mathlib.Omega.{arith}
+use lib.Dec.{T, eqb, leb, ltb}
+use lib.Ieee.{Float}
+use lib.ListN.{length}
+use Rattle.lists.specs.Lists.{all}
+use Rattle.layout.specs.declared.Layout.{Layout}
+use Rattle.layout.specs.Questions.{Question, firstNo, layoutQuestions}
+use Rattle.extent.specs.Extent.{question7}
+use Rattle.region.specs.Zones.{question8}
+use Rattle.region.specs.Selection.{question9, question10}
+use Rattle.selector.specs.Call.{Call, Found, stateOf, question11, question12, question13, question14, argumentQuestions, callQuestions}
+
+-- questions that are answered yes add nothing
+first-append : (qs rs : List Question) → firstNo rs ≡ 0 → firstNo (qs ++ rs) ≡ firstNo qs
+first-append [] rs e = e
+first-append (q ∷ qs) rs e = ap (λ (n : ℕ). cond (q .yes) n (q .number)) (first-append qs rs e)
+
+-- each has a number from 1 up
+abbrev pub Numbered : List Question → Type 0
+Numbered [] = Unit {0}
+Numbered (q ∷ qs) = (1 ≤ q .number) × Numbered qs
+
+pub yes-first : (b : Bool) (rest number : ℕ) → 1 ≤ number → cond b rest number ≡ 0 → (b ≡ true) × (rest ≡ 0)
+yes-first true rest number h e = (refl, e)
+yes-first false rest number h e = absurd (omega arith)
+
+pub first-front : (qs rs : List Question) → Numbered qs → firstNo (qs ++ rs) ≡ 0 → (firstNo qs ≡ 0) × (firstNo rs ≡ 0)
+first-front [] rs h e = (refl, e)
+first-front (q ∷ qs) rs h e =
+    let s = yes-first (q .yes) (firstNo (qs ++ rs)) (q .number) (h .0) e in
+    let r = first-front qs rs (h .1) (s .1) in
+    (ap (λ (b : Bool). cond b (firstNo qs) (q .number)) (s .0) ∙ r .0, r .1)
+
+-- ---- question 14 is about the state alone
+pub asked-alone : (c : Call) (f : Found) → question14 (f .count) (f .oldest) ≡ true → firstNo (callQuestions c f) ≡ firstNo (argumentQuestions c (length (f .store)))
+unfolding callQuestions
+asked-alone c f e =
+    first-append (argumentQuestions c (length (f .store))) (record { number = 14; yes = question14 (f .count) (f .oldest) } ∷ [])
+    (ap (λ (b : Bool). cond b 0 14) e)
+
+-- ---- all thirteen answers are yes
+pub record Said (c : Call) (size : ℕ) : Type 0 where
+  pub layout : firstNo (layoutQuestions (c .layout)) ≡ 0
+  pub yes7 : question7 (c .extent) ≡ true
+  pub yes8 : question8 (c .flags) ≡ true
+  pub yes9 : question9 (stateOf c) (c .layout) ≡ true
+  pub yes10 : question10 (stateOf c) (c .layout) ≡ true
+  pub yes11 : question11 c ≡ true
+  pub yes12 : question12 c ≡ true
+  pub yes13 : question13 c size ≡ true
+
+pub layout-numbered : (l : Layout) → Numbered (layoutQuestions l)
+unfolding layoutQuestions
+layout-numbered l = (omega arith, (omega arith, (omega arith, (omega arith, (omega arith, (omega arith, tt))))))
+
+pub said : (c : Call) (size : ℕ) → firstNo (argumentQuestions c size) ≡ 0 → Said c size
+unfolding argumentQuestions
+said c size e =
+    let s = first-front (layoutQuestions (c .layout)) _ (layout-numbered (c .layout)) e in
+    let a = yes-first (question7 (c .extent)) _ 7 (omega arith) (s .1) in
+    let b = yes-first (question8 (c .flags)) _ 8 (omega arith) (a .1) in
+    let d = yes-first (question9 (stateOf c) (c .layout)) _ 9 (omega arith) (b .1) in
+    let g = yes-first (question10 (stateOf c) (c .layout)) _ 10 (omega arith) (d .1) in
+    let h = yes-first (question11 c) _ 11 (omega arith) (g .1) in
+    let i = yes-first (question12 c) _ 12 (omega arith) (h .1) in
+    let j = yes-first (question13 c size) _ 13 (omega arith) (i .1) in
+    record { layout = s .0; yes7 = a .0; yes8 = b .0; yes9 = d .0; yes10 = g .0; yes11 = h .0; yes12 = i .0; yes13 = j .0 }

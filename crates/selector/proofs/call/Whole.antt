@@ -1,0 +1,125 @@
+-- The whole call: fourteen questions, and then the gains. Assumes nothing.
+use Prim.Native.Nat.{ℕ, _≤_, _<_}
+use mathlib.Core.Path.{_≡_, refl, sym, ap, ap₂, _∙_, subst}
+use mathlib.Core.Bool.{Bool, true, false, cond}
+use mathlib.Core.List.{List, [], _∷_, _++_, append-assoc}
+use native.Mathlib.Omega.{arith}
+use borrow.Author.Tests.{leb-true, ltb-true, eq-eqb, ne-eqb}
+use lib.Dec.{eqb, leb, ltb}
+use lib.Ieee.{Float}
+use lib.ListN.{length}
+use Rattle.layout.specs.declared.Layout.{Layout}
+use Rattle.layout.specs.Channels.{activeCount}
+use Rattle.layout.specs.Questions.{Question, firstNo, layoutQuestions}
+use Rattle.layout.proofs.QuestionsCounted.{both}
+use Rattle.layout.proofs.Sizes.{Sized}
+use Rattle.extent.specs.declared.Extent.{Extent}
+use Rattle.extent.specs.Extent.{question7, meanOf, meanRadius}
+use Rattle.gains.specs.declared.Centre.{Centre}
+use Rattle.region.specs.Zones.{zonesOf, question8}
+use Rattle.region.specs.Selection.{question9, question10, selectedLayout}
+use Rattle.region.proofs.Selections.{selected-yes, selected-accepted}
+use Rattle.selector.specs.declared.Outcome.{Outcome}
+use Rattle.selector.specs.declared.Outcome.the-variants.{Refused, Gains}
+use Rattle.selector.specs.declared.Reply.{Reply}
+use Rattle.selector.specs.declared.Ring.{Ring}
+use Rattle.selector.specs.declared.Word.the-variants.{Unused}
+use Rattle.selector.specs.Call.{Call, Found, Answer, Wanted, stateIn, question14, argumentQuestions, callQuestions, wanted, served, refusedBy, answerOf}
+use Rattle.selector.specs.Steps.{laterQuestions, zoneQuestions, planQuestions, callBy, foundBy, wantedBy, replyOf}
+use Rattle.selector.proofs.Questions.{Numbered, yes-first, first-front, layout-numbered}
+use Rattle.selector.proofs.asked.Chosen.{first-stays, first-passes}
+use Rattle.selector.proofs.call.Answers.{Leaves}
+use Rattle.selector.proofs.call.Later.{located, pointed, roomy}
+
+numbered-append : (qs rs : List Question) → Numbered qs → Numbered rs → Numbered (qs ++ rs)
+numbered-append [] rs h k = k
+numbered-append (q ∷ qs) rs h k = (h .0, numbered-append qs rs (h .1) k)
+
+-- ---- the first ten
+module _ (l : Layout) (e : Extent) (flags : List Bool) where
+  abbrev four : List Question
+  four = record { number = 7; yes = question7 e } ∷ zoneQuestions l flags
+
+  plan-numbered : Numbered (planQuestions l e flags)
+  unfolding planQuestions zoneQuestions
+  plan-numbered = numbered-append (layoutQuestions l) four (layout-numbered l) (omega arith, (omega arith, (omega arith, (omega arith, tt))))
+
+  plan-says : firstNo (planQuestions l e flags) ≡ 0 → (firstNo (layoutQuestions l) ≡ 0) × (question9 (stateIn (zonesOf flags)) l ≡ true)
+  unfolding planQuestions zoneQuestions
+  plan-says z =
+      let s = first-front (layoutQuestions l) four (layout-numbered l) z in
+      let a = yes-first (question7 e) _ 7 (omega arith) (s .1) in
+      let b = yes-first (question8 flags) _ 8 (omega arith) (a .1) in
+      let d = yes-first (question9 (stateIn (zonesOf flags)) l) _ 9 (omega arith) (b .1) in
+      (s .0, d .0)
+
+  -- what the selected layout has
+  pub plan-gives : Sized l → (p : ℕ) (chosen : Layout) → p ≡ firstNo (planQuestions l e flags) → p ≡ 0 → chosen ≡ selectedLayout (stateIn (zonesOf flags)) l → (firstNo (layoutQuestions chosen) ≡ 0) × (chosen .used ≤ 24) × (chosen .depth ≤ 4)
+  plan-gives s p chosen f z m =
+      let q = plan-says (sym f ∙ z) in
+      let t = stateIn (zonesOf flags) in
+      let a = selected-accepted l s t (q .0) (q .1) in
+      subst (λ (x : Layout). (firstNo (layoutQuestions x) ≡ 0) × (x .used ≤ 24) × (x .depth ≤ 4)) (sym m) (selected-yes l s t (q .0) (q .1), a .fewChannels, a .fewLayers)
+
+-- ---- the last four
+pub later-gives : (c : Centre) (points : List Float) (n slots size : ℕ) (r : Ring) (q : ℕ) → q ≡ firstNo (laterQuestions c points n slots size r) → q ≡ 0 → (r .count ≤ 8) × (r .oldest < 8) × (285312 ≤ size)
+unfolding laterQuestions
+later-gives c points n slots size r q f z =
+    let a = yes-first (located c points n slots size r) _ 11 (omega arith) (sym f ∙ z) in
+    let b = yes-first (pointed c points n slots size r) _ 12 (omega arith) (a .1) in
+    let d = yes-first (roomy c points n slots size r) _ 13 (omega arith) (b .1) in
+    let g = yes-first (question14 (r .count) (r .oldest)) _ 14 (omega arith) (d .1) in
+    let h = both (leb (r .count) 8) (ltb (r .oldest) 8) (g .0) in
+    let i = both (leb n slots) (leb 285312 size) (d .0) in
+    (leb-true (r .count) 8 (h .0), ltb-true (r .oldest) 8 (h .1), leb-true 285312 size (i .1))
+
+-- ---- all fourteen
+module _ (words : List ℕ) (r : Ring) (store : List Float) (l : Layout) (epoch : ℕ) (e : Extent) (flags : List Bool) (c : Centre) (points gains : List Float) where
+  abbrev C : Call
+  C = callBy l epoch e flags c points gains
+
+  abbrev F : Found
+  F = foundBy words r store
+
+  abbrev P : List Question
+  P = planQuestions l e flags
+
+  abbrev L : ℕ → List Question
+  L n = laterQuestions c points n (length gains) (length store) r
+
+  in-two : callQuestions C F ≡ P ++ L (activeCount l)
+  unfolding callQuestions argumentQuestions planQuestions zoneQuestions laterQuestions
+  in-two = append-assoc (layoutQuestions l) _ _ ∙ sym (append-assoc (layoutQuestions l) (four l e flags) (L (activeCount l)))
+
+  module _ (p : ℕ) (f : p ≡ firstNo P) where
+    by-plan : (p ≡ 0 → ⊥) → firstNo (callQuestions C F) ≡ p
+    by-plan n = ap firstNo in-two ∙ first-stays P (L (activeCount l)) (λ z. n (f ∙ z)) ∙ sym f
+
+    by-later : p ≡ 0 → (n q : ℕ) → n ≡ activeCount l → q ≡ firstNo (L n) → firstNo (callQuestions C F) ≡ q
+    by-later z n q m g =
+        ap firstNo in-two ∙ first-passes P (L (activeCount l)) (plan-numbered l e flags) (sym f ∙ z) ∙ ap (λ (k : ℕ). firstNo (L k)) (sym m) ∙ sym g
+
+  answer-by : (q : ℕ) → firstNo (callQuestions C F) ≡ q → answerOf C F ≡ cond (eqb q 0) (served (wanted C) F) (refusedBy q C F)
+  unfolding answerOf
+  answer-by q g = ap (λ (k : ℕ). cond (eqb k 0) (served (wanted C) F) (refusedBy k C F)) g
+
+  refused-leaves : (q : ℕ) (reply : Reply) → firstNo (callQuestions C F) ≡ q → (q ≡ 0 → ⊥) → reply ≡ record { outcome = Refused q; ring = r } → Leaves (answerOf C F) reply words store gains
+  refused-leaves q reply g n m =
+      let z = ne-eqb q 0 n in
+      let a = answer-by q g ∙ ap (λ (b : Bool). cond b (served (wanted C) F) (refusedBy q C F)) z in
+      let o : reply ≡ replyOf (refusedBy q C F) = m ∙ sym (ap (λ (b : Bool). record { outcome = cond b (Gains 0 Unused) (Refused q); ring = r }) z) in
+      subst (λ (x : Answer). Leaves x reply words store gains) (sym a) (o, (refl, (refl, refl)))
+
+  pub plan-refuses : (p : ℕ) (reply : Reply) → p ≡ firstNo P → (p ≡ 0 → ⊥) → reply ≡ record { outcome = Refused p; ring = r } → Leaves (answerOf C F) reply words store gains
+  plan-refuses p reply f n m = refused-leaves p reply (by-plan p f n) n m
+
+  pub later-refuses : (p n q : ℕ) (reply : Reply) → p ≡ firstNo P → p ≡ 0 → n ≡ activeCount l → q ≡ firstNo (L n) → (q ≡ 0 → ⊥) → reply ≡ record { outcome = Refused q; ring = r } → Leaves (answerOf C F) reply words store gains
+  later-refuses p n q reply f z m g k o = refused-leaves q reply (by-later p f z n q m g) k o
+
+  pub call-serves : (p n q : ℕ) (chosen : Layout) (mean : ℕ) (radius : Float) (reply : Reply) (words' : List ℕ) (store' gains' : List Float) → p ≡ firstNo P → p ≡ 0 → n ≡ activeCount l → q ≡ firstNo (L n) → q ≡ 0 → (chosen ≡ selectedLayout (stateIn (zonesOf flags)) l) × (mean ≡ meanOf e) × (radius ≡ meanRadius (meanOf e)) → Leaves (served (wantedBy chosen epoch n mean radius c points gains) F) reply words' store' gains' → Leaves (answerOf C F) reply words' store' gains'
+  call-serves p n q chosen mean radius reply words' store' gains' f z m g k w h =
+      let a = answer-by 0 (by-later p f z n q m g ∙ k) in
+      let v : wantedBy chosen epoch n mean radius c points gains ≡ wanted C =
+      ap₂ (λ (x : Layout) (i : ℕ). wantedBy x epoch i mean radius c points gains) (w .0) m
+      ∙ ap₂ (λ (i : ℕ) (x : Float). wantedBy (selectedLayout (stateIn (zonesOf flags)) l) epoch (activeCount l) i x c points gains) (w .1) (w .2) in
+      subst (λ (x : Answer). Leaves x reply words' store' gains') (ap (λ (x : Wanted). served x F) v ∙ sym a) h
