@@ -1,4 +1,5 @@
 //! The original's extent.rs and region.rs with document 01's stand-ins, and the types that they use.
+pub mod bench;
 pub mod random;
 pub mod rooms;
 pub mod standins;
