@@ -1,17 +1,1 @@
 pub mod Keys
-pub mod Packing
-pub mod Picks
-pub mod Flat
-pub mod Left
-pub mod Counts
-pub mod LessThan
-pub mod Sublists
-pub mod KeptOrder
-pub mod KeptAnchors
-pub mod KeptCounts
-pub mod KeptAccepted
-pub mod KeptBlank
-pub mod Tested
-pub mod LayerAnchors
-pub mod FlagLayers
-pub mod Selections

@@ -1,4 +1,2 @@
 pub mod Zones
 pub mod Classes
-pub mod Select
-pub mod Selection

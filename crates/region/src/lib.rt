@@ -1,21 +1,17 @@
-// Regions: what the zone flags say, which speakers a region keeps, and the layout that it selects.
+// Regions: what the zone flags say, and which speakers a region keeps.
 ghost use mathlib.Core.Path.{_≡_};
 ghost use Rattle.region.specs.Zones.{defaultState};
 
 mod classes;
 mod flags;
-mod ground;
-mod select;
-mod selection;
 
 pub use classes::five_x;
 pub use classes::is_22_2;
 pub use classes::matches_bed_state;
 pub use flags::from_decoded_zones;
 pub use flags::is_default;
+pub use flags::is_include;
 pub use flags::to_decoded_zones;
-use layout::Layout;
-pub use selection::derive_selected_layout;
 
 pub enum RegionHorizontalState {
     NoConstraints,
@@ -72,11 +68,4 @@ pub struct Speaker {
     pub surround: bool,
     pub back: bool,
     pub side: bool,
-}
-
-// What a region state selects: refusal 0 and the layout chosen, or the number of the refusal and the
-// layout that was lent.
-pub struct Selected {
-    pub refusal: u64,
-    pub chosen: Layout,
 }

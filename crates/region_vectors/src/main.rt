@@ -219,7 +219,7 @@ fn state_of(v: u64) -> RegionSemanticState {
 
 fn tell_selected(l: Layout, v: u64) {
     let s = state_of(v);
-    let r = region::derive_selected_layout(l, s);
+    let r = selection::derive_selected_layout(l, s);
     let chosen = r.chosen;
     if r.refusal == 0 {
         put(0, b" ");

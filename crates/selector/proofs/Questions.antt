@@ -12,7 +12,7 @@ use Rattle.layout.specs.declared.Layout.{Layout}
 use Rattle.layout.specs.Questions.{Question, firstNo, layoutQuestions}
 use Rattle.extent.specs.Extent.{question7}
 use Rattle.region.specs.Zones.{question8}
-use Rattle.region.specs.Selection.{question9, question10}
+use Rattle.selection.specs.Selection.{question9, question10}
 use Rattle.selector.specs.Call.{Call, Found, stateOf, question11, question12, question13, question14, argumentQuestions, callQuestions}
 
 -- questions that are answered yes add nothing

@@ -27,10 +27,10 @@ use Rattle.field.specs.Place.{filled}
 use Rattle.extent.proofs.Extents.{radius-fits}
 use Rattle.field_laws.proofs.PlaceGains.{filled-projected, filled-bounded, point-projected, point-bounded}
 use Rattle.region.specs.declared.RegionSemanticState.{RegionSemanticState}
-use Rattle.region.specs.Select.{keptLayout}
-use Rattle.region.specs.Selection.{keptFlags, selectedLayout}
+use Rattle.selection.specs.Select.{keptLayout}
+use Rattle.selection.specs.Selection.{keptFlags, selectedLayout}
 use Rattle.region.specs.Zones.{isDefault}
-use Rattle.region.proofs.Selections.{selected-sized, selected-accepted, selected-zs-fit, selected-ys-fit, selected-xs-fit}
+use Rattle.selection.proofs.Selections.{selected-sized, selected-accepted, selected-zs-fit, selected-ys-fit, selected-xs-fit}
 use Rattle.selector.specs.Call.{Call, isGain, stateOf, answered, question12, question13, selectedOf, wanted, gainsBy}
 use Rattle.selector.specs.Rule.{Typed}
 use Rattle.selector.proofs.Questions.{Said}

@@ -26,7 +26,7 @@ use Rattle.selector.specs.declared.Word.the-variants.{Unused, Kept, Buil
 use Rattle.selector.specs.declared.Outcome.{Outcome}
 use Rattle.selector.specs.declared.Outcome.the-variants.{Refused, Gains}
 use Rattle.region.specs.Zones.{zonesOf, question8, defaultState}
-use Rattle.region.specs.Selection.{question9, question10, selectedLayout}
+use Rattle.selection.specs.Selection.{question9, question10, selectedLayout}
 use Rattle.selector.specs.Keys.{keyWords, withKey, findFrom, upTo}
 
 -- what a call brings, all but selector and store

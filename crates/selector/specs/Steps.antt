@@ -14,7 +14,7 @@ use Rattle.extent.specs.declared.Extent.{Extent}
 use Rattle.extent.specs.Extent.{question7}
 use Rattle.gains.specs.declared.Centre.{Centre}
 use Rattle.region.specs.Zones.{zonesOf, question8}
-use Rattle.region.specs.Selection.{question9, question10}
+use Rattle.selection.specs.Selection.{question9, question10}
 use Rattle.selector.specs.declared.Plan.{Plan}
 use Rattle.selector.specs.declared.Reply.{Reply}
 use Rattle.selector.specs.declared.Ring.{Ring}

@@ -3,7 +3,7 @@ ghost use mathlib.Core.Path.{_≡_};
 ghost use Prim.Native.Nat.{_≤_};
 ghost use Rattle.layout.specs.Questions.{firstNo};
 ghost use Rattle.extent.specs.Extent.{meanOf, meanRadius};
-ghost use Rattle.region.specs.Selection.{selectedLayout};
+ghost use Rattle.selection.specs.Selection.{selectedLayout};
 ghost use Rattle.region.specs.Zones.{zonesOf};
 ghost use Rattle.selector.specs.Call.{stateIn};
 ghost use Rattle.selector.specs.Steps.{refusedPlan, zoneQuestions, planQuestions};
@@ -34,7 +34,7 @@ fn selected(l: Layout, flags: [bool; 6], mean: u64, radius: f64) -> Plan
     match zones {
         Zones::Refused(q) => refused(q, l),
         Zones::State(state) => {
-            let s = region::derive_selected_layout(l, state);
+            let s = selection::derive_selected_layout(l, state);
             let chosen = s.chosen;
             Plan {
                 refusal: s.refusal,

@@ -17,11 +17,11 @@ use Rattle.extent.specs.Extent.{question7, meanOf, meanRadius, readOf}
 use Rattle.region.specs.declared.RegionHorizontalState.{RegionHorizontalState}
 use Rattle.region.specs.declared.RegionSemanticState.{RegionSemanticState}
 use Rattle.region.specs.declared.RegionTopBottomState.{RegionTopBottomState}
-use Rattle.region.specs.declared.Selected.{Selected}
+use Rattle.selection.specs.declared.Selected.{Selected}
 use Rattle.region.specs.declared.Zones.{Zones}
 use Rattle.region.specs.declared.Zones.the-variants as zones
 use Rattle.region.specs.Zones.{zonesAmong, zonesOf, refusalOf, question8, fiveOf, sameFlag, topOf, horizontals}
-use Rattle.region.specs.Selection.{question9, question10, selectedLayout, selectionRefusal, selectionOf}
+use Rattle.selection.specs.Selection.{question9, question10, selectedLayout, selectionRefusal, selectionOf}
 use Rattle.lists.specs.Lists.{allSame}
 use Rattle.selector.specs.declared.Plan.{Plan}
 use Rattle.selector.specs.Call.{stateIn}

@@ -17,8 +17,8 @@ use Rattle.extent.specs.declared.Extent.{Extent}
 use Rattle.extent.specs.Extent.{question7, meanOf, meanRadius}
 use Rattle.gains.specs.declared.Centre.{Centre}
 use Rattle.region.specs.Zones.{zonesOf, question8}
-use Rattle.region.specs.Selection.{question9, question10, selectedLayout}
-use Rattle.region.proofs.Selections.{selected-yes, selected-accepted}
+use Rattle.selection.specs.Selection.{question9, question10, selectedLayout}
+use Rattle.selection.proofs.Selections.{selected-yes, selected-accepted}
 use Rattle.selector.specs.declared.Outcome.{Outcome}
 use Rattle.selector.specs.declared.Outcome.the-variants.{Refused, Gains}
 use Rattle.selector.specs.declared.Reply.{Reply}

@@ -1,0 +1,72 @@
+-- What holds of a list holds of those that are picked from it.
+use Prim.Native.Nat.{ℕ}
+use mathlib.Core.Path.{_≡_, refl, ap}
+use mathlib.Core.Bool.{Bool, true, false, not, cond, _||_}
+use mathlib.Core.List.{List, [], _∷_, map}
+use lib.Dec.{T, eqb}
+use mir.Facts.{and-yes, yes-and}
+use Rattle.lists.specs.Lists.{all, elem, allDistinct, filter, chain, chainFrom}
+use Rattle.selection.specs.Select.{picked}
+
+-- those that pass a test are picked by it
+pub filter-picked : {A : Type 0} (p : A → Bool) (xs : List A) → filter p xs ≡ picked (map p xs) xs
+filter-picked p [] = refl
+filter-picked {A = A} p (x ∷ xs) = ap (λ (l : List A). cond (p x) (x ∷ l) l) (filter-picked p xs)
+
+pub map-picked : {A B : Type 0} (f : A → B) (bs : List Bool) (xs : List A) → map f (picked bs xs) ≡ picked bs (map f xs)
+map-picked f [] xs = refl
+map-picked f (b ∷ bs) [] = refl
+map-picked {B = B} f (true ∷ bs) (x ∷ xs) = ap (λ (l : List B). f x ∷ l) (map-picked f bs xs)
+map-picked f (false ∷ bs) (x ∷ xs) = map-picked f bs xs
+
+module _ {A : Type 0} (p : A → Bool) where
+  pub all-picked : (bs : List Bool) (xs : List A) → T (all p xs) → T (all p (picked bs xs))
+  all-picked [] xs h = tt
+  all-picked (b ∷ bs) [] h = tt
+  all-picked (true ∷ bs) (x ∷ xs) h = let e = and-yes (p x) (all p xs) h in yes-and (p x) (all p (picked bs xs)) (e .0) (all-picked bs xs (e .1))
+  all-picked (false ∷ bs) (x ∷ xs) h = all-picked bs xs (and-yes (p x) (all p xs) h .1)
+
+-- an ascending list stays so
+module _ {A : Type 0} (r : A → A → Bool) (trans : (x y z : A) → T (r x y) → T (r y z) → T (r x z)) where
+  chain-past : (x y : A) (ys : List A) → T (r x y) → T (chainFrom r y ys) → T (chainFrom r x ys)
+  chain-past x y [] h k = tt
+  chain-past x y (z ∷ zs) h k = let e = and-yes (r y z) (chainFrom r z zs) k in yes-and (r x z) (chainFrom r z zs) (trans x y z h (e .0)) (e .1)
+
+  chain-from : (x : A) (bs : List Bool) (ys : List A) → T (chainFrom r x ys) → T (chainFrom r x (picked bs ys))
+  chain-from x [] ys h = tt
+  chain-from x (b ∷ bs) [] h = tt
+  chain-from x (true ∷ bs) (y ∷ ys) h = let e = and-yes (r x y) (chainFrom r y ys) h in yes-and (r x y) (chainFrom r y (picked bs ys)) (e .0) (chain-from y bs ys (e .1))
+  chain-from x (false ∷ bs) (y ∷ ys) h = let e = and-yes (r x y) (chainFrom r y ys) h in chain-from x bs ys (chain-past x y ys (e .0) (e .1))
+
+  chain-tail : (x : A) (xs : List A) → T (chainFrom r x xs) → T (chain r xs)
+  chain-tail x [] h = tt
+  chain-tail x (y ∷ ys) h = and-yes (r x y) (chainFrom r y ys) h .1
+
+  pub chain-picked : (bs : List Bool) (xs : List A) → T (chain r xs) → T (chain r (picked bs xs))
+  chain-picked [] xs h = tt
+  chain-picked (b ∷ bs) [] h = tt
+  chain-picked (true ∷ bs) (x ∷ xs) h = chain-from x bs xs h
+  chain-picked (false ∷ bs) (x ∷ xs) h = chain-picked bs xs (chain-tail x xs h)
+
+-- no two are equal
+nor : (a b : Bool) → T (not (a || b)) → T (not a) × T (not b)
+nor true b h = absurd h
+nor false b h = (tt, h)
+
+from-nor : (a b : Bool) → T (not a) → T (not b) → T (not (a || b))
+from-nor true b h k = h
+from-nor false b h k = k
+
+elem-picked : (n : ℕ) (bs : List Bool) (xs : List ℕ) → T (not (elem n xs)) → T (not (elem n (picked bs xs)))
+elem-picked n [] xs h = tt
+elem-picked n (b ∷ bs) [] h = tt
+elem-picked n (true ∷ bs) (x ∷ xs) h = let e = nor (eqb x n) (elem n xs) h in from-nor (eqb x n) (elem n (picked bs xs)) (e .0) (elem-picked n bs xs (e .1))
+elem-picked n (false ∷ bs) (x ∷ xs) h = elem-picked n bs xs (nor (eqb x n) (elem n xs) h .1)
+
+pub distinct-picked : (bs : List Bool) (xs : List ℕ) → T (allDistinct xs) → T (allDistinct (picked bs xs))
+distinct-picked [] xs h = tt
+distinct-picked (b ∷ bs) [] h = tt
+distinct-picked (true ∷ bs) (x ∷ xs) h =
+    let e = and-yes (not (elem x xs)) (allDistinct xs) h in
+    yes-and (not (elem x (picked bs xs))) (allDistinct (picked bs xs)) (elem-picked x bs xs (e .0)) (distinct-picked bs xs (e .1))
+distinct-picked (false ∷ bs) (x ∷ xs) h = distinct-picked bs xs (and-yes (not (elem x xs)) (allDistinct xs) h .1)
