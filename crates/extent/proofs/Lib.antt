@@ -2,4 +2,5 @@ pub mod Tests
 pub mod Casts
 pub mod RadiusBounds
 pub mod Extents
+pub mod KernelCases
 pub mod Shaping

@@ -13,7 +13,7 @@ use Rattle.doubles.specs.Exp2.{polynomialOf, outside32, finiteOrZero, exp2At, e
 use Rattle.doubles.specs.Log2.{log2Of}
 use Rattle.doubles.proofs.Signs.{clear}
 use Rattle.extent.specs.Kernel.{threshold, positive, quarticOf, heightened, kernelOf, kernelAt, shapedOf, exponentOf}
-use Rattle.extent.proofs.kernel.Cases.{power, quarter}
+use Rattle.extent.proofs.KernelCases.{power, quarter}
 
 -- finite, with a clear sign
 abbrev pub Plain : Float → Type 0

@@ -3,3 +3,4 @@ pub mod Channels
 pub mod Ends
 pub mod Axes
 pub mod Field
+pub mod Steps

@@ -4,9 +4,11 @@ ghost use mathlib.Core.Bool.{_||_, cond};
 ghost use mathlib.Core.List.{_++_};
 ghost use Prim.Native.Nat.{ℕ, _+_, _*_, _≤_};
 ghost use lib.Dec.{T, eqb};
-ghost use lib.Ieee.{nan, eq};
+ghost use lib.Ieee.{nan, lt, eq};
 ghost use lib.ListN.{length, getD, drop};
-ghost use Rattle.doubles.specs.Arithmetic.{_⊗_, zero};
+ghost use Rattle.doubles.specs.Arithmetic.{_⊕_, _⊗_, _⊘_, dec, zero};
+ghost use Rattle.doubles.specs.Exp2.{exp2Of};
+ghost use Rattle.doubles.specs.Log2.{log2Of};
 ghost use Rattle.extent.specs.Kernel.{shapedOf, exponentOf};
 ghost use Rattle.field.specs.Knots.{steps};
 ghost use Rattle.gains.specs.Walls.{nearestWall};
@@ -23,7 +25,6 @@ use crate::walls::nearest_wall;
 use doubles::approx_exp2;
 use doubles::approx_log2;
 use extent::compact_quartic_kernel;
-use extent::shaped;
 use extent::shaping_exponent;
 
 const THRESHOLD: f64 = 2.5e-5;
@@ -57,20 +58,111 @@ fn interior(out: &mut [f64; 24], n: usize, x: &[f64; 24], y: &[f64; 24], z: &[f6
     }
 }
 
-// A channel's value near a wall.
-fn compensated(inside: f64, product: f64, weight: f64, exponent: f64) -> f64
-    ensures { λ r. ⌜ r ≡ compensatedOf inside product weight exponent ⌝ }
+// As `shaped`. The power is always finite, so that is not tested.
+fn shaped_end(value: f64, exponent: f64) -> f64
+    ensures { λ r. ⌜ r ≡ shapedOf value exponent ⌝ }
 {
-    let field = RESPONSE_SCALE * (inside + weight * product);
-    if field > 0.0 {
-        approx_exp2(approx_log2(field) / exponent)
-    } else {
-        0.0
+    if value > 0.0 {
+        let result = approx_exp2(exponent * approx_log2(value));
+        if result > 0.0 {
+            return result;
+        }
+    }
+    0.0
+}
+
+// The shaped end responses of a wall, whose numbers begin at `ends`.
+fn shaped_ends(
+    out: &mut [f64; 24],
+    n: usize,
+    store: &[f64],
+    ends: usize,
+    kernel: f64,
+    exponent: f64,
+)
+    requires { ⌜ (n ≤ 24) × (ends + n ≤ length (now store)) ⌝ }
+    ensures { λ _. ⌜ now (out .exit) ≡ channels n (λ (k : ℕ). shapedOf (kernel ⊗ getD (now (store .entry)) (ends + k) nan) exponent) ++ drop n (now (out .entry)) ⌝ }
+{
+    let values: &mut [f64] = out;
+    let mut k = 0usize;
+    while k < n {
+        values[k] = shaped_end(kernel * store[ends + k], exponent);
+        k += 1;
     }
 }
 
+// Each channel's field with the end response of a wall; a and b are the responses of the other two
+// axes.
+fn wall_fields(
+    out: &mut [f64; 24],
+    n: usize,
+    ends: &[f64; 24],
+    a: &[f64; 24],
+    b: &[f64; 24],
+    weight: f64,
+)
+    requires { ⌜ n ≤ 24 ⌝ }
+    ensures { λ _. ⌜ now (out .exit) ≡ channels n (λ (k : ℕ). dec 31640625 8 ⊗ (getD (now (out .entry)) k nan ⊕ weight ⊗ (getD (now (ends .entry)) k nan ⊗ getD (now (a .entry)) k nan ⊗ getD (now (b .entry)) k nan))) ++ drop n (now (out .entry)) ⌝ }
+{
+    let values: &mut [f64] = out;
+    let mut k = 0usize;
+    while k < n {
+        values[k] = RESPONSE_SCALE * (values[k] + weight * (ends[k] * a[k] * b[k]));
+        k += 1;
+    }
+}
+
+// The logarithm of a field; 0 where the field is not above 0.
+fn log_above(field: f64) -> f64
+    ensures { λ r. ⌜ r ≡ cond (lt zero field) (log2Of field) zero ⌝ }
+{
+    if field > 0.0 { approx_log2(field) } else { 0.0 }
+}
+
+// The logarithms of the fields over the exponent.
+fn logs(out: &mut [f64; 24], n: usize, fields: &[f64; 24], exponent: f64)
+    requires { ⌜ n ≤ 24 ⌝ }
+    ensures { λ _. ⌜ now (out .exit) ≡ channels n (λ (k : ℕ). cond (lt zero (getD (now (fields .entry)) k nan)) (log2Of (getD (now (fields .entry)) k nan)) zero ⊘ exponent) ++ drop n (now (out .entry)) ⌝ }
+{
+    let values: &mut [f64] = out;
+    let mut k = 0usize;
+    while k < n {
+        values[k] = log_above(fields[k]) / exponent;
+        k += 1;
+    }
+}
+
+// 2 ^ log; 0 where the field is not above 0.
+fn power_above(field: f64, log: f64) -> f64
+    ensures { λ r. ⌜ r ≡ cond (lt zero field) (exp2Of log) zero ⌝ }
+{
+    if field > 0.0 { approx_exp2(log) } else { 0.0 }
+}
+
+fn powers(out: &mut [f64; 24], n: usize, logs: &[f64; 24])
+    requires { ⌜ n ≤ 24 ⌝ }
+    ensures { λ _. ⌜ now (out .exit) ≡ channels n (λ (k : ℕ). cond (lt zero (getD (now (out .entry)) k nan)) (exp2Of (getD (now (logs .entry)) k nan)) zero) ++ drop n (now (out .entry)) ⌝ }
+{
+    let values: &mut [f64] = out;
+    let mut k = 0usize;
+    while k < n {
+        values[k] = power_above(values[k], logs[k]);
+        k += 1;
+    }
+}
+
+// field ^ (1 / exponent) by the approximations; 0 where the field is not above 0.
+fn unshape(out: &mut [f64; 24], n: usize, exponent: f64)
+    requires { ⌜ n ≤ 24 ⌝ }
+    ensures { λ _. ⌜ now (out .exit) ≡ channels n (λ (k : ℕ). cond (lt zero (getD (now (out .entry)) k nan)) (exp2Of (log2Of (getD (now (out .entry)) k nan) ⊘ exponent)) zero) ++ drop n (now (out .entry)) ⌝ }
+{
+    let mut l = [0.0f64; 24];
+    logs(&mut l, n, out, exponent);
+    powers(out, n, &l);
+}
+
 // Each channel with the end response of a wall, whose numbers begin at `ends`; a and b are the
-// responses of the other two axes.
+// responses of the other two axes. Short loops, one for each step, run faster than one long one.
 fn near_wall(
     out: &mut [f64; 24],
     n: usize,
@@ -85,13 +177,10 @@ fn near_wall(
     requires { ⌜ (n ≤ 24) × (ends + n ≤ length (now store)) ⌝ }
     ensures { λ _. ⌜ now (out .exit) ≡ channels n (λ (k : ℕ). compensatedOf (getD (now (out .entry)) k nan) (shapedOf (kernel ⊗ getD (now (store .entry)) (ends + k) nan) exponent ⊗ getD (now (a .entry)) k nan ⊗ getD (now (b .entry)) k nan) weight exponent) ++ drop n (now (out .entry)) ⌝ }
 {
-    let values: &mut [f64] = out;
-    let mut k = 0usize;
-    while k < n {
-        let end = shaped(kernel * store[ends + k], exponent);
-        values[k] = compensated(values[k], end * a[k] * b[k], weight, exponent);
-        k += 1;
-    }
+    let mut e = [0.0f64; 24];
+    shaped_ends(&mut e, n, store, ends, kernel, exponent);
+    wall_fields(out, n, &e, a, b, weight);
+    unshape(out, n, exponent);
 }
 
 // The same, with the kernel at u about a coordinate of the centre.

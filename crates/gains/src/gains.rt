@@ -62,6 +62,17 @@ fn clear(v: &mut [f64], n: usize)
     }
 }
 
+fn divide_into(out: &mut [f64], v: &[f64], n: usize, by: f64)
+    requires { ⌜ (n ≤ length (now out)) × (n ≤ length (now v)) ⌝ }
+    ensures { λ _. ⌜ now (out .exit) ≡ map (λ (x : Float). x ⊘ by) (take n (now (v .entry))) ++ drop n (now (out .entry)) ⌝ }
+{
+    let mut k = 0usize;
+    while k < n {
+        out[k] = v[k] / by;
+        k += 1;
+    }
+}
+
 // Divides by the root of the folded squares; all 0 where the sum is 0 or not finite.
 fn normalize(v: &mut [f64], n: usize)
     requires { ⌜ n ≤ length (now v) ⌝ }
@@ -72,6 +83,19 @@ fn normalize(v: &mut [f64], n: usize)
         divide(v, n, sqrt(sum));
     } else {
         clear(v, n);
+    }
+}
+
+// The same, from v into out.
+fn normalize_into(out: &mut [f64], v: &[f64], n: usize)
+    requires { ⌜ (n ≤ length (now out)) × (n ≤ length (now v)) ⌝ }
+    ensures { λ _. ⌜ now (out .exit) ≡ normalizedOf (take n (now (v .entry))) ++ drop n (now (out .entry)) ⌝ }
+{
+    let sum = sum_squares(v, n);
+    if is_finite(sum) & (sum > 0.0) {
+        divide_into(out, v, n, sqrt(sum));
+    } else {
+        clear(out, n);
     }
 }
 
@@ -148,8 +172,7 @@ fn field_gains(
 {
     let mut v = [0.0f64; 24];
     diffuse(&mut v, store, base, n, deep, clamped(c), radius);
-    copy(out, &v, n);
-    normalize(out, n);
+    normalize_into(out, &v, n);
 }
 
 // The blend of point gains and field.

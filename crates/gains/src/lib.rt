@@ -1,6 +1,7 @@
 // The gains of an object over a filled place of the store.
 mod diffuse;
 mod gains;
+mod knot_tables;
 mod knots;
 mod lookup;
 mod walls;

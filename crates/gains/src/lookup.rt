@@ -9,8 +9,13 @@ ghost use lib.ListN.{length, getD, drop};
 ghost use Rattle.field.specs.Knots.{steps, radiusKnot};
 ghost use Rattle.gains.specs.Lookup.{listed, channels, radiusKnots, bracketOf, mixed, lookupOf, Found};
 use crate::Bracket;
+use crate::knot_tables::centre_knot;
+use crate::knot_tables::round_knot;
 use crate::knots::radius_knot;
 use crate::knots::step;
+
+// 1.5 * 2 ^ 52. From there on the doubles are the whole numbers.
+const SHIFT: f64 = 6755399441055744.0;
 
 // The knots i / last: the first one from `from` on that is not below value, or the last.
 fn first_step(value: f64, last: usize, from: usize) -> usize
@@ -27,13 +32,16 @@ fn first_step(value: f64, last: usize, from: usize) -> usize
     last
 }
 
-// A guess at the knot below value: its share of the knots, cut to a whole number.
+// A guess at the knot below value by its share of the knots: the sum with SHIFT has the whole number
+// nearest to share - 1/2 in its lowest bits. A share at a knot, or barely above, goes to the one before.
 fn guessed(share: f64, last: usize) -> usize
     requires { ⌜ 1 ≤ last ⌝ }
     ensures { λ r. ⌜ r < last ⌝ }
 {
-    if (share > 0.0) & (share < 64.0) {
-        let g = std::num::truncating_f64_to_u64(share) as usize;
+    let s = share - 0.50000001 + SHIFT;
+    if s >= SHIFT {
+        let b: u64 = f64::to_bits(s);
+        let g = (b & 63) as usize;
         if g < last {
             return g;
         }
@@ -55,6 +63,17 @@ fn below_near(value: f64, last: usize, g: usize) -> usize
         }
     }
     0
+}
+
+// The knot that `first_step` finds, by the guess where that is right.
+fn knot_after(value: f64, last: usize, g: usize) -> usize
+    requires { ⌜ (g < last) × T (eqb last 34 || eqb last 3) × (lt (steps last 0) value ≡ true) ⌝ }
+    ensures { λ r. ⌜ Found (steps last) last value r ⌝ }
+{
+    if (centre_knot(g, last) < value) & !(centre_knot(g + 1, last) < value) {
+        return g + 1;
+    }
+    first_step(value, last, below_near(value, last, g) + 1)
 }
 
 // The knots about value among i / last: the end one at or beyond an end. A NaN stays a NaN.
@@ -83,13 +102,12 @@ pub fn bracket(value: f64, last: usize) -> Bracket
             t: 0.0,
         };
     }
-    let g = guessed(value * (last as f64), last);
-    let k = first_step(value, last, below_near(value, last, g) + 1);
-    let a = step(k - 1, last);
+    let k = knot_after(value, last, guessed(value * (last as f64), last));
+    let a = centre_knot(k - 1, last);
     Bracket {
         lower: k - 1,
         upper: k,
-        t: (value - a) / (step(k, last) - a),
+        t: (value - a) / (centre_knot(k, last) - a),
     }
 }
 
@@ -124,6 +142,17 @@ fn radius_below_near(value: f64, g: usize) -> usize
     0
 }
 
+// The knot that `first_radius` finds, by the guess where that is right.
+fn radius_after(value: f64, g: usize) -> usize
+    requires { ⌜ (g < 19) × (lt (radiusKnot 0) value ≡ true) ⌝ }
+    ensures { λ r. ⌜ Found radiusKnot 19 value r ⌝ }
+{
+    if (round_knot(g) < value) & !(round_knot(g + 1) < value) {
+        return g + 1;
+    }
+    first_radius(value, radius_below_near(value, g) + 1)
+}
+
 // The same for the radius knots.
 pub fn radius_bracket(value: f64) -> Bracket
     ensures { λ r. ⌜ r ≡ bracketOf radiusKnots value ⌝ }
@@ -142,20 +171,19 @@ pub fn radius_bracket(value: f64) -> Bracket
             t: value,
         };
     }
-    if value >= radius_knot(19) {
+    if value >= round_knot(19) {
         return Bracket {
             lower: 19,
             upper: 19,
             t: 0.0,
         };
     }
-    let g = guessed(value * 27.142857142857142, 19);
-    let k = first_radius(value, radius_below_near(value, g) + 1);
-    let a = radius_knot(k - 1);
+    let k = radius_after(value, guessed(value * 27.142857142857142, 19));
+    let a = round_knot(k - 1);
     Bracket {
         lower: k - 1,
         upper: k,
-        t: (value - a) / (radius_knot(k) - a),
+        t: (value - a) / (round_knot(k) - a),
     }
 }
 

@@ -1,13 +1,11 @@
 -- The definitions of the diffuse field, case by case. Assumes nothing.
-use mathlib.Core.Path.{_≡_, sym, ap, _∙_}
-use mathlib.Core.Bool.{Bool, true, false, _&&_, _||_, cond}
+use mathlib.Core.Path.{_≡_}
+use mathlib.Core.Bool.{Bool, true, false, _&&_, _||_}
 use lib.IntN.{pos}
-use lib.Ieee.{Float, lt, le}
+use lib.Ieee.{Float, le}
 use Rattle.doubles.specs.Arithmetic.{_⊕_, _⊗_, _⊘_, dec, whole, zero}
-use Rattle.doubles.specs.Exp2.{exp2Of}
-use Rattle.doubles.specs.Log2.{log2Of}
 use Rattle.extent.specs.Kernel.{threshold}
-use Rattle.gains.specs.Diffuse.{lambdaOf, compensatedOf}
+use Rattle.gains.specs.Diffuse.{lambdaOf}
 
 -- ---- lambda
 module _ (d r : Float) where
@@ -27,13 +25,3 @@ module _ (d r : Float) where
 module _ (inside product lambda e : Float) where
   abbrev pub field : Float
   field = dec 31640625 8 ⊗ (inside ⊕ lambda ⊗ product)
-
-  -- l is the logarithm, and v the power
-  pub compensated-above : (l v : Float) → lt zero field ≡ true → l ≡ log2Of field → v ≡ exp2Of (l ⊘ e) → v ≡ compensatedOf inside product lambda e
-  unfolding compensatedOf
-  compensated-above l v h p q =
-      q ∙ ap (λ (y : Float). exp2Of (y ⊘ e)) p ∙ sym (ap (λ (b : Bool). cond b (exp2Of (log2Of field ⊘ e)) zero) h)
-
-  pub compensated-not : lt zero field ≡ false → compensatedOf inside product lambda e ≡ zero
-  unfolding compensatedOf
-  compensated-not h = ap (λ (b : Bool). cond b (exp2Of (log2Of field ⊘ e)) zero) h

@@ -1,8 +1,9 @@
 -- The branches of `normalize` and of `mix` are the cases of their definitions. Assumes nothing.
 use Prim.Native.Nat.{ℕ}
-use mathlib.Core.Path.{_≡_}
+use mathlib.Core.Path.{_≡_, refl, ap}
 use mathlib.Core.Bool.{Bool, true, false, _&&_, cond}
-use mathlib.Core.List.{List, _++_, map}
+use mathlib.Core.List.{List, [], _∷_, _++_, map}
+use native.Mathlib.Omega.{arith}
 use lib.Ieee.{Float, binary64, lt}
 use lib.Ieee.Scale.{finite}
 use lib.ListN.{length, take, drop, length-map}
@@ -23,6 +24,13 @@ module _ (v : List Float) (s : Float) (b : Bool) (e : s ≡ sumSquares v) (f : b
   pub normalized-no : b && lt zero s ≡ false → map (λ (x : Float). zero) v ≡ normalizedOf v
   unfolding normalizedOf
   normalized-no h = rw (← e, ← f, h)
+
+-- a number for each of two lists of one length
+pub same-number : (z : Float) (xs ys : List Float) → length xs ≡ length ys → map (λ (x : Float). z) xs ≡ map (λ (x : Float). z) ys
+same-number z [] [] h = refl
+same-number z [] (y ∷ ys) h = absurd (omega arith)
+same-number z (x ∷ xs) [] h = absurd (omega arith)
+same-number z (x ∷ xs) (y ∷ ys) h = ap (λ (l : List Float). z ∷ l) (same-number z xs ys (omega arith))
 
 pub normalized-length : (v : List Float) → length (normalizedOf v) ≡ length v
 unfolding normalizedOf

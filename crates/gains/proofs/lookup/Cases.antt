@@ -6,7 +6,7 @@ use mathlib.Core.Bool.{true, false}
 use mathlib.Core.List.{List}
 use native.Mathlib.Nat.{eq-or-lt-of-le}
 use native.Mathlib.Omega.{arith}
-use lib.Ieee.{Float, nan, inf, fin, lt, le, eq, sub, add, div}
+use lib.Ieee.{Float, nan, lt, le, sub, add, div}
 use lib.ListN.{length, getD}
 use Rattle.doubles.specs.Arithmetic.{_⊖_, _⊘_}
 use Rattle.doubles.specs.Arithmetic.{zero as zero64}
@@ -14,7 +14,7 @@ use Rattle.gains.specs.declared.Bracket.{Bracket}
 use Rattle.gains.specs.Lookup.{listed, atKnot, betweenKnots, bracketOf, Found}
 use Rattle.field.specs.Responses.{below}
 use Rattle.field.proofs.ResponseOrder.{not-lt-of-not-le}
-use Rattle.gains.proofs.lookup.Comparing.{not-le-of-lt, nan-of}
+use Rattle.gains.proofs.lookup.Comparing.{not-le-of-lt, nan-of, no-less}
 use Rattle.gains.proofs.lookup.Listing.{length-listed, getD-listed, below-is, below-nan}
 use Rattle.gains.proofs.lookup.Rising.{Rising, all-below}
 
@@ -30,12 +30,6 @@ is-last xs v e g = rw (e, g)
 pub is-between : (xs : List Float) (v : Float) → le v (getD xs 0 nan) ≡ false → le (getD xs (length xs - 1) nan) v ≡ false → bracketOf xs v ≡ betweenKnots xs v (below v xs)
 unfolding bracketOf
 is-between xs v e g = rw (e, g)
-
-no-less : (x : Float) → le x nan ≡ false
-unfolding lt le eq
-no-less nan = refl
-no-less (inf s) = refl
-no-less (fin s m e) = refl
 
 -- between knots k - 1 and k of f
 abbrev pub betweenAt : (ℕ → Float) → Float → ℕ → Bracket

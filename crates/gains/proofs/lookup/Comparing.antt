@@ -1,19 +1,17 @@
 -- The order of doubles, some of them finite with a clear sign. Assumes nothing.
 use Prim.Native.Nat.{ℕ, _+_, _*_, _<_}
 use mathlib.Core.Path.{_≡_, refl, sym, ap, _∙_}
-use mathlib.Core.Bool.{Bool, true, false, _||_, _&&_, true≢false}
+use mathlib.Core.Bool.{Bool, true, false, not, _||_, _&&_, true≢false}
 use native.Mathlib.Nat.{le-of-eq, lt-trans, lt-of-le-of-lt, lt-of-lt-of-le, mul-right-comm, mul-lt-mul-of-pos-right, lt-of-mul-lt-mul-right}
 use native.Mathlib.Omega.{arith}
 use borrow.Author.Tests.{lt-ltb, le-ltb, ltb-true, ne-eqb}
 use lib.Dec.{T, ltb, eqb}
-use lib.IntN.{pos}
-use lib.Ieee.{Float, nan, inf, fin, up, down, lt, le, eq}
+use lib.Ieee.{Float, nan, inf, fin, up, down, lt, le, eq, isNan}
 use lib.Ieee.Fits.{down-pos}
 use lib.Ieee.Scale.{finite}
 use Rattle.doubles.specs.Arithmetic.{zero}
 use Rattle.doubles.proofs.Magnitude.{plain}
 use Rattle.field.proofs.ResponseOrder as order
-use Rattle.extent.proofs.Tests.{yes}
 
 -- x / p < y / q < z / r
 through : (x y z p q r : ℕ) → 0 < p → 0 < r → x * q < y * p → y * r < z * q → x * r < z * p
@@ -93,15 +91,19 @@ pub le-of-lt : (x y : Float) → lt x y ≡ true → T (le x y)
 unfolding le
 le-of-lt x y h = rw h tt
 
--- a double from 0 up and below 64 can be cut to a whole number of 64 bits
-pub asks : (x : Float) → lt zero x ≡ true → lt x (fin false 1 (pos 6)) ≡ true → T (lt (fin true 1 (pos 0)) x) × T (lt x (fin false 1 (pos 64)))
-unfolding lt
-asks nan h k = absurd (true≢false (sym h))
-asks (inf true) h k = absurd (true≢false (sym h))
-asks (inf false) h k = absurd (true≢false (sym k))
-asks (fin true m e) h k = absurd (true≢false (sym h))
-asks (fin false m e) h k =
-    (yes (lt-ltb 0 (1 * 1 * down e + m * up e * 1) (omega (arith, down-pos e))), yes (below-trans (fin false m e) (fin false 1 (pos 6)) (fin false 1 (pos 64)) tt tt k refl))
+-- nothing is at most a NaN
+pub no-less : (x : Float) → le x nan ≡ false
+unfolding lt le eq
+no-less nan = refl
+no-less (inf s) = refl
+no-less (fin s m e) = refl
+
+-- what is from x up is no NaN
+pub over-no-nan : (x y : Float) → le x y ≡ true → T (not (isNan y))
+unfolding isNan
+over-no-nan x nan h = absurd (true≢false (sym h ∙ no-less x))
+over-no-nan x (inf s) h = tt
+over-no-nan x (fin s m e) h = tt
 
 pub both : (a b : Bool) → (a && b) ≡ true → (a ≡ true) × (b ≡ true)
 both true b h = (refl, h)

@@ -4,7 +4,7 @@ use borrow.Author.Needs.{needs}
 use lib.Ieee.{ofBits, round, ofInt}
 use Rattle.extent.specs.Kernel.{kernelOf, heightened}
 use Rattle.extent.proofs.Tests.{turned}
-use Rattle.extent.proofs.kernel.Cases.{kernel-small, kernel-far, kernel-bad, kernel-good, heightened-z, heightened-not}
+use Rattle.extent.proofs.KernelCases.{kernel-small, kernel-far, kernel-bad, kernel-good, heightened-z, heightened-not}
 use Rattle.extent.proofs.kernel.compact_quartic_kernel.Statement.{statement}
 use Rattle.extent.proofs.kernel.compact_quartic_kernel.Tie as tie
 

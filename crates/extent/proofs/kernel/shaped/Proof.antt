@@ -4,7 +4,7 @@ use borrow.Author.Needs.{needs}
 use lib.Ieee.{Float, ofBits}
 use Rattle.doubles.specs.Arithmetic.{_⊗_}
 use Rattle.doubles.specs.Exp2.{exp2Of}
-use Rattle.extent.proofs.kernel.Cases.{power, shaped-not, shaped-good, shaped-bad}
+use Rattle.extent.proofs.KernelCases.{power, shaped-not, shaped-good, shaped-bad}
 use Rattle.extent.proofs.kernel.shaped.Statement.{statement}
 use Rattle.extent.proofs.kernel.shaped.Tie as tie
 

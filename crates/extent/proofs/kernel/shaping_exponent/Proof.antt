@@ -1,7 +1,7 @@
 -- `extent::kernel::shaping_exponent` meets its contract: the literals are the definition's numbers. Assumes nothing.
 use mathlib.Core.Path.{sym}
 use lib.Ieee.{ofBits, round, ofInt}
-use Rattle.extent.proofs.kernel.Cases.{exponent-low, exponent-high}
+use Rattle.extent.proofs.KernelCases.{exponent-low, exponent-high}
 use Rattle.extent.proofs.kernel.shaping_exponent.Statement.{statement}
 use Rattle.extent.proofs.kernel.shaping_exponent.Tie as tie
 

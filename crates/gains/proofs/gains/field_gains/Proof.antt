@@ -1,4 +1,4 @@
--- `gains::gains::field_gains` meets its contract: the field of the clamped centre, copied and normalised. Assumes nothing.
+-- `gains::gains::field_gains` meets its contract: the field of the clamped centre, normalised. Assumes nothing.
 use Prim.Native.Nat.{ℕ}
 use mathlib.Core.Path.{_≡_, sym, ap, _∙_}
 use mathlib.Core.List.{List, _++_}
@@ -12,7 +12,6 @@ use Rattle.gains.specs.Lookup.{channels}
 use Rattle.gains.specs.Diffuse.{placeRows, diffuseOf}
 use Rattle.gains.specs.Gains.{normalizedOf, clampedCentre}
 use Rattle.gains.proofs.lookup.Listing.{length-listed}
-use Rattle.gains.proofs.gains.Normal.{written-then}
 use Rattle.gains.proofs.gains.field_gains.Statement.{statement}
 use Rattle.gains.proofs.gains.field_gains.Tie as tie
 
@@ -33,26 +32,22 @@ module _ (c : tie.After-diffuse) where
       let h = field-long in
       ap length (c .diffuse .ensures) ∙ simp (length-append, length-drop, length-replicate) (omega arith)
 
-aggregate : tie.Need-slice-aggregate-copy
+aggregate : tie.Need-slice-aggregate-normalize-into
 aggregate c = sym (array-long (c .before .before))
 
-copy-requires : tie.Need-copy-requires
-copy-requires c κs = let h = array-long (c .before .before) in omega arith
+normalize-into-requires : tie.Need-normalize-into-requires
+normalize-into-requires c κs = let h = array-long (c .before .before) in omega arith
 
 returns : tie.Need-returns
 returns c =
-    let r = c .before .before in
-    let m = r .before .before .before .before in
+    let m = c .before .before in
     let d = m .before .before .before in
     let a = s d .args in
     let n = a .n in
-    let g = a .out .now in
-    let f = diffused (s d) (clampedCentre (a .c)) in
-    let e : take n (d .diffuse .last .0) ≡ channels n f =
+    let e : take n (d .diffuse .last .0) ≡ channels n (diffused (s d) (clampedCentre (a .c))) =
     ap (take n) (d .diffuse .ensures) ∙ take-at _ _ n (field-long d) ∙ ap (λ (x : Centre). channels n (diffused (s d) x)) (d .before .clamped .ensures)
     in
-    r .normalize .ensures
-    ∙ written-then normalizedOf n (channels n f) g _ (length-listed f n) (m .copy .ensures ∙ ap (λ (xs : List Float). xs ++ drop n g) e)
+    m .normalize-into .ensures ∙ ap (λ (xs : List Float). normalizedOf xs ++ drop n (a .out .now)) e
 
 pub field-gains-spec : {M : Type 1} → statement M
 field-gains-spec =
@@ -61,7 +56,6 @@ field-gains-spec =
     (λ c κs. search needs)
     (λ c κs. search needs)
     aggregate
-    copy-requires
-    (λ c κs. search needs)
+    normalize-into-requires
     (λ c. search needs)
     returns)

@@ -52,25 +52,19 @@ returns-3 c =
 abbrev start : tie.After-guessed → tie.Start
 start c = c .before .before .before .before .before
 
-below-near-requires : tie.Need-below-near-requires
-below-near-requires c κs =
+knot-after-requires : tie.Need-knot-after-requires
+knot-after-requires c κs =
     let s = start c in
-    (omega arith, bounds s .1, lt-same _ (sym (rising s .first)) (positive (c .before .before .before)))
-
-first-step-requires : tie.Need-first-step-requires
-first-step-requires c κs =
-    let b = c .below-near .result in
-    let e : b + 1 - 1 ≡ b = omega arith in
-    (omega arith, omega arith, bounds (start (c .before)) .1, rw e (c .below-near .ensures .1))
+    (omega arith, s .pre, lt-same _ (sym (rising s .first)) (positive (c .before .before .before)))
 
 returns-4 : tie.Need-returns-4
 returns-4 c =
     let k = c .before .before in
-    let g = k .before .before in
+    let g = k .before in
     let s = start g in
     let o = g .before .before in
-    rw (c .step2 .ensures, c .before .step .ensures)
-    (sym (found (steps (s .args .last)) (s .args .last) (rising s) (s .args .value) (positive (o .before)) (inside o) (k .first-step .result) (k .first-step .ensures)))
+    rw (c .centre-knot2 .ensures, c .before .centre-knot .ensures)
+    (sym (found (steps (s .args .last)) (s .args .last) (rising s) (s .args .value) (positive (o .before)) (inside o) (k .knot-after .result) (k .knot-after .ensures)))
 
 pub bracket-spec : {M : Type 1} → statement M
 bracket-spec =
@@ -81,11 +75,9 @@ bracket-spec =
     returns-3
     (λ c. casts _ (omega (arith, bounds (c .before .before .before .before))))
     (λ c κs. bounds (c .before .before .before .before) .0)
-    below-near-requires
+    knot-after-requires
     (λ c. search needs)
-    first-step-requires
+    (λ c κs. (omega (arith, bounds (start (c .before)), c .knot-after .ensures .within), start (c .before) .pre))
     (λ c. search needs)
-    (λ c κs. omega (arith, bounds (start (c .before .before)), c .first-step .ensures .within))
-    (λ c. search needs)
-    (λ c κs. omega (arith, bounds (start (c .before .before .before)), c .before .first-step .ensures .within))
+    (λ c κs. (omega (arith, bounds (start (c .before .before)), c .before .knot-after .ensures .within), start (c .before .before) .pre))
     returns-4)

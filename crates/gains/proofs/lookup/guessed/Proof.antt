@@ -1,13 +1,11 @@
--- `gains::lookup::guessed` meets its contract. Assumes nothing.
+-- `gains::lookup::guessed` meets its contract: what is from SHIFT up is no NaN. Assumes nothing.
 use borrow.Author.Needs.{needs}
-use lib.Ieee.{ofBits}
-use Rattle.gains.proofs.lookup.Comparing.{asks, both}
+use Rattle.gains.proofs.lookup.Comparing.{over-no-nan}
 use Rattle.gains.proofs.lookup.guessed.Statement.{statement}
 use Rattle.gains.proofs.lookup.guessed.Tie as tie
 
-truncating-f64-to-u64-requires : tie.Need-truncating-f64-to-u64-requires
-unfolding ofBits
-truncating-f64-to-u64-requires c κs = let p = both _ _ (c .if1 .taken) in asks _ (p .0) (p .1)
+float-to-bits-b : tie.Need-float-to-bits-b
+float-to-bits-b c = over-no-nan _ _ (c .if1 .taken)
 
 pub guessed-spec : {M : Type 1} → statement M
-guessed-spec = tie.close (tie.spec truncating-f64-to-u64-requires (λ c. search needs) (λ c. search needs) (λ c. search needs))
+guessed-spec = tie.close (tie.spec float-to-bits-b (λ c. search needs) (λ c. search needs) (λ c. search needs))

@@ -31,25 +31,19 @@ unfolding ofBits
 returns-3 c =
     let o = c .before .before in
     let v = o .before .before .args .value in
-    sym (at-last radiusKnot 19 rising-radius v (positive o) (ap (λ (x : Float). le x v) (sym (c .before .radius-knot .ensures)) ∙ c .if3 .taken))
+    sym (at-last radiusKnot 19 rising-radius v (positive o) (ap (λ (x : Float). le x v) (sym (c .before .round-knot .ensures)) ∙ c .if3 .taken))
 
-radius-below-near-requires : tie.Need-radius-below-near-requires
-radius-below-near-requires c κs = (omega arith, lt-same _ (sym (rising-radius .first)) (positive (c .before .before .before)))
-
-first-radius-requires : tie.Need-first-radius-requires
-first-radius-requires c κs =
-    let b = c .radius-below-near .result in
-    let e : b + 1 - 1 ≡ b = omega arith in
-    (omega arith, omega arith, rw e (c .radius-below-near .ensures .1))
+radius-after-requires : tie.Need-radius-after-requires
+radius-after-requires c κs = (omega arith, lt-same _ (sym (rising-radius .first)) (positive (c .before .before .before)))
 
 returns-4 : tie.Need-returns-4
 returns-4 c =
     let k = c .before .before in
-    let i = k .before .before .before in
+    let i = k .before .before in
     let o = i .before .before in
     let v = o .before .before .args .value in
-    rw (c .radius-knot3 .ensures, c .before .radius-knot2 .ensures)
-    (sym (found radiusKnot 19 rising-radius v (positive o) (ap (λ (x : Float). le x v) (sym (i .before .radius-knot .ensures)) ∙ i .if3 .left) (k .first-radius .result) (k .first-radius .ensures)))
+    rw (c .round-knot3 .ensures, c .before .round-knot2 .ensures)
+    (sym (found radiusKnot 19 rising-radius v (positive o) (ap (λ (x : Float). le x v) (sym (i .before .round-knot .ensures)) ∙ i .if3 .left) (k .radius-after .result) (k .radius-after .ensures)))
 
 pub radius-bracket-spec : {M : Type 1} → statement M
 radius-bracket-spec =
@@ -60,9 +54,7 @@ radius-bracket-spec =
     (λ c κs. search needs)
     returns-3
     (λ c κs. search needs)
-    radius-below-near-requires
-    (λ c. search needs)
-    first-radius-requires
+    radius-after-requires
     (λ c. search needs)
     (λ c κs. search needs)
     (λ c. search needs)

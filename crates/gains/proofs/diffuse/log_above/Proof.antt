@@ -1,0 +1,16 @@
+-- `gains::diffuse::log_above` meets its contract. Assumes nothing.
+use borrow.Author.Needs.{needs}
+use lib.Ieee.{ofBits}
+use Rattle.gains.proofs.diffuse.log_above.Statement.{statement}
+use Rattle.gains.proofs.diffuse.log_above.Tie as tie
+
+returns : tie.Need-returns
+unfolding ofBits
+returns c = rw (c .before .if1 .taken) (c .approx-log2 .ensures)
+
+returns-2 : tie.Need-returns-2
+unfolding ofBits
+returns-2 c = rw (c .if1 .left)
+
+pub log-above-spec : {M : Type 1} → statement M
+log-above-spec = tie.close (tie.spec (λ c κs. search needs) returns returns-2)

@@ -1,0 +1,60 @@
+-- `gains::diffuse::powers` meets its contract: after k turns the first k channels are written. Assumes nothing.
+use mathlib.Core.Path.{_≡_, ap, _∙_}
+use mathlib.Core.Bool.{cond}
+use Prim.Native.Nat.{ℕ, _-_, _≤_}
+use native.Mathlib.Omega.{arith}
+use borrow.Author.Needs.{needs}
+use lib.Ieee.{Float, nan, lt}
+use lib.ListN.{length, getD}
+use Rattle.doubles.specs.Arithmetic.{zero}
+use Rattle.doubles.specs.Exp2.{exp2Of}
+use Rattle.gains.proofs.lookup.Writing.{Written, written-none, written-more, written-done}
+use Rattle.gains.proofs.diffuse.Channels.{written-reads}
+use Rattle.gains.proofs.diffuse.powers.Statement.{statement}
+use Rattle.gains.proofs.diffuse.powers.Tie as tie
+
+abbrev Inv-loop : tie.InvT-loop
+Inv-loop n logs values₀ k₀ values k = (k ≤ n) × (length values₀ ≡ 24) × Written (λ (i : ℕ). cond (lt zero (getD values₀ i nan)) (exp2Of (getD logs i nan)) zero) values₀ values k
+
+abbrev μ-loop : tie.MeasureT-loop
+μ-loop n logs values₀ k₀ values k = n - k
+
+loop-holds : tie.Need-loop-holds Inv-loop μ-loop
+loop-holds c = (omega arith, search needs, written-none _ _)
+
+loop-again : tie.Need-loop-again Inv-loop μ-loop
+loop-again c =
+    let l = c .before .before .before .before in
+    let a = l .before .before .args in
+    let k = l .loop .k in (
+      omega arith,
+      l .loop .inv .1,
+      written-more _ _ _ _ _ (omega arith)
+          (c .power-above .ensures ∙ ap (λ (x : Float). cond (lt zero x) (exp2Of (getD (a .logs .now) k nan)) zero) (written-reads _ _ _ _ nan (l .loop .inv .2)))
+          (l .loop .inv .2),
+    )
+
+returns : tie.Need-returns Inv-loop μ-loop
+returns c =
+    let l = c .before in
+    let e : l .loop .k ≡ l .before .before .args .n = omega arith in
+    rw (← e) (written-done _ _ _ _ (l .loop .inv .2))
+
+pub powers-spec : {M : Type 1} → statement M
+powers-spec =
+    tie.close
+    (tie.spec
+    Inv-loop
+    μ-loop
+    loop-holds
+    (λ c. omega arith)
+    (λ c. omega arith)
+    (λ c. omega arith)
+    (λ c. omega arith)
+    (λ c κs. tt)
+    (λ c. omega arith)
+    (λ c. omega arith)
+    (λ c. omega arith)
+    (λ c. omega arith)
+    loop-again
+    returns)
