@@ -1,8 +1,11 @@
 // Numbers and names of a script.
+use crate::text::Class;
 use crate::text::Token;
-use crate::text::is_plain;
+use crate::text::are_of;
+use crate::text::byte;
 use crate::text::packed;
 use crate::text::size;
+use crate::text::wide;
 
 pub enum Whole {
     Number(u64),
@@ -14,125 +17,173 @@ pub enum Double {
     Bad,
 }
 
-pub enum Hex {
-    Digit(u64),
-    Bad,
+// The most that a tenth of a whole number can be.
+const TENTH: u64 = 1844674407370955161;
+
+// A whole number with one byte more.
+fn longer(n: u64, c: u8) -> Whole {
+    if c < b'0' {
+        return Whole::Bad;
+    }
+    let d = wide(c - b'0');
+    if 9 < d {
+        return Whole::Bad;
+    }
+    if TENTH < n {
+        return Whole::Bad;
+    }
+    if n == TENTH {
+        if 5 < d {
+            return Whole::Bad;
+        }
+        return Whole::Number(18446744073709551610 + d);
+    }
+    Whole::Number(n * 10 + d)
 }
 
-fn hex_digit(c: u8) -> Hex {
-    if (b'0' <= c) & (c <= b'9') {
-        return Hex::Digit((c - b'0') as u64);
+// The decimal whole number from `from` to `to`, up to 2 ^ 64 - 1.
+fn whole_bytes(line: &[u8], from: usize, to: usize) -> Whole {
+    let mut n = 0u64;
+    let mut i = from;
+    while i < to {
+        let Whole::Number(m) = longer(n, byte(line, i)) else {
+            return Whole::Bad;
+        };
+        n = m;
+        i += 1;
     }
-    if (b'a' <= c) & (c <= b'f') {
-        return Hex::Digit((c - b'a') as u64 + 10);
-    }
-    if (b'A' <= c) & (c <= b'F') {
-        return Hex::Digit((c - b'A') as u64 + 10);
-    }
-    Hex::Bad
+    Whole::Number(n)
 }
 
-fn is_digit(c: u8) -> bool {
-    (b'0' <= c) & (c <= b'9')
-}
-
-// A decimal whole number up to 2 ^ 64 - 1.
 pub fn whole(line: &[u8], t: Token) -> Whole {
     if size(t) == 0 {
         return Whole::Bad;
     }
-    let mut n = 0u64;
-    let mut i = t.from;
-    while i < t.to {
-        let c = line[i];
-        if !is_digit(c) {
-            return Whole::Bad;
-        }
-        let d = (c - b'0') as u64;
-        if n > 1844674407370955161 {
-            return Whole::Bad;
-        }
-        if (n == 1844674407370955161) & (5 < d) {
-            return Whole::Bad;
-        }
-        n = n * 10 + d;
-        i += 1;
-    }
-    Whole::Number(n)
+    whole_bytes(line, t.from, t.to)
 }
 
-// 16 hexadecimal digits from `from` on.
-fn pattern(line: &[u8], from: usize, to: usize) -> Whole {
-    if to - from != 16 {
+// A token's 16 hexadecimal digits behind its first byte.
+fn pattern(line: &[u8], t: Token) -> Whole {
+    if size(t) != 17 {
         return Whole::Bad;
     }
-    let mut n = 0u64;
-    let mut i = from;
-    while i < to {
-        let h = hex_digit(line[i]);
-        match h {
-            Hex::Digit(d) => {
-                n = n * 16 + d;
-            }
-            Hex::Bad => {
-                return Whole::Bad;
-            }
-        }
-        i += 1;
+    let first = t.from;
+    let to = t.to;
+    if to <= first {
+        return Whole::Bad;
     }
-    Whole::Number(n)
+    let from = first + 1;
+    if !are_of(Class::Hex, line, from, to) {
+        return Whole::Bad;
+    }
+    Whole::Number(replay::hex(line, from))
 }
 
-fn power_of_ten(k: usize) -> u64 {
-    let mut n = 1u64;
-    let mut i = 0usize;
-    while i < k {
-        n = n * 10;
+// What is read of a decimal: its digits as a number over a power of ten, how many before and after
+// the point, and whether the point was there.
+struct Decimal {
+    good: bool,
+    number: u64,
+    power: u64,
+    before: u64,
+    after: u64,
+    point: bool,
+}
+
+fn spoilt(d: Decimal) -> Decimal {
+    let mut r = d;
+    r.good = false;
+    r
+}
+
+// One digit more, below ten: 15 at most.
+fn with_digit(d: Decimal, v: u64) -> Decimal {
+    if (14 < d.before) | (14 < d.after) {
+        return spoilt(d);
+    }
+    if 14 < d.before + d.after {
+        return spoilt(d);
+    }
+    let number = d.number % 100_000_000_000_000 * 10 + v % 10;
+    let mut r = d;
+    r.number = number;
+    if d.point {
+        r.after = d.after + 1;
+        r.power = d.power % 1_000_000_000_000_000 * 10;
+    } else {
+        r.before = d.before + 1;
+    }
+    r
+}
+
+// One byte more.
+fn with_byte(d: Decimal, c: u8) -> Decimal {
+    if c == b'.' {
+        if d.point {
+            return spoilt(d);
+        }
+        let mut r = d;
+        r.point = true;
+        return r;
+    }
+    if c < b'0' {
+        return spoilt(d);
+    }
+    let v = wide(c - b'0');
+    if 9 < v {
+        return spoilt(d);
+    }
+    with_digit(d, v)
+}
+
+fn digits(line: &[u8], from: usize, to: usize) -> Decimal {
+    let mut d = Decimal {
+        good: true,
+        number: 0,
+        power: 1,
+        before: 0,
+        after: 0,
+        point: false,
+    };
+    let mut i = from;
+    while i < to {
+        d = with_byte(d, byte(line, i));
         i += 1;
     }
-    n
+    d
+}
+
+// digits[.digits] of at most 15 digits.
+fn unsigned(line: &[u8], from: usize, to: usize) -> Double {
+    let d = digits(line, from, to);
+    if !d.good {
+        return Double::Bad;
+    }
+    if d.before == 0 {
+        return Double::Bad;
+    }
+    if d.point {
+        if d.after == 0 {
+            return Double::Bad;
+        }
+    }
+    Double::Value(std::num::nearest_u64_to_f64(d.number) / std::num::nearest_u64_to_f64(d.power))
 }
 
 // [-]digits[.digits] of at most 15 digits.
 fn decimal(line: &[u8], t: Token) -> Double {
-    let mut i = t.from;
-    let minus = if i < t.to { line[i] == b'-' } else { false };
-    if minus {
-        i += 1;
+    let from = t.from;
+    let to = t.to;
+    if byte(line, from) != b'-' {
+        return unsigned(line, from, to);
     }
-    let mut n = 0u64;
-    let mut digits = 0usize;
-    let mut before = 0usize;
-    let mut after = 0usize;
-    let mut point = false;
-    while i < t.to {
-        let c = line[i];
-        if is_digit(c) {
-            if digits == 15 {
-                return Double::Bad;
-            }
-            n = n * 10 + ((c - b'0') as u64);
-            digits += 1;
-            if point {
-                after += 1;
-            } else {
-                before += 1;
-            }
-        } else if (c == b'.') & !point {
-            point = true;
-        } else {
-            return Double::Bad;
-        }
-        i += 1;
-    }
-    if (before == 0) | (point & (after == 0)) {
+    if to <= from {
         return Double::Bad;
     }
-    let x = (n as f64) / (power_of_ten(after) as f64);
-    if minus {
-        Double::Value(-x)
-    } else {
-        Double::Value(x)
+    let u = unsigned(line, from + 1, to);
+    match u {
+        Double::Value(x) => Double::Value(-x),
+        Double::Bad => Double::Bad,
     }
 }
 
@@ -140,28 +191,28 @@ pub fn double(line: &[u8], t: Token) -> Double {
     if size(t) == 0 {
         return Double::Bad;
     }
-    if line[t.from] == b'x' {
-        let p = pattern(line, t.from + 1, t.to);
-        return match p {
-            Whole::Number(n) => Double::Value(doubles::of_bits(n)),
-            Whole::Bad => Double::Bad,
-        };
+    if byte(line, t.from) != b'x' {
+        return decimal(line, t);
     }
-    decimal(line, t)
+    let p = pattern(line, t);
+    match p {
+        Whole::Number(n) => Double::Value(doubles::of_bits(n)),
+        Whole::Bad => Double::Bad,
+    }
 }
 
 // A name: 1 to 8 plain bytes, or a backslash and 16 hexadecimal digits.
 pub fn name(line: &[u8], t: Token) -> Whole {
     let n = size(t);
     if n == 17 {
-        if line[t.from] == b'\\' {
-            return pattern(line, t.from + 1, t.to);
+        if byte(line, t.from) == b'\\' {
+            return pattern(line, t);
         }
     }
     if (n == 0) | (8 < n) {
         return Whole::Bad;
     }
-    if !is_plain(line, t) {
+    if !are_of(Class::Plain, line, t.from, t.to) {
         return Whole::Bad;
     }
     Whole::Number(packed(line, t))

@@ -4,27 +4,69 @@ pub struct Token {
     pub to: usize,
 }
 
+// The classes of bytes that a token can be made of.
+pub enum Class {
+    Plain,
+    Hex,
+    Flag,
+}
+
+// The i'th byte; 0 past the end.
+pub fn byte(line: &[u8], i: usize) -> u8 {
+    if i < line.len() { line[i] } else { 0 }
+}
+
+// The i'th byte from `from` on; 0 past the end.
+pub fn letter(line: &[u8], from: usize, i: usize) -> u8 {
+    if line.len() <= from {
+        return 0;
+    }
+    if line.len() - from <= i {
+        return 0;
+    }
+    line[from + i]
+}
+
+pub fn wide(b: u8) -> u64 {
+    b as u64
+}
+
+// Where the run of spaces, or of other bytes, from `at` on ends.
+fn run_end(line: &[u8], length: usize, at: usize, spaces: bool) -> usize {
+    let mut i = at;
+    while i < length {
+        if (byte(line, i) == b' ') != spaces {
+            return i;
+        }
+        i += 1;
+    }
+    i
+}
+
 // The next token from `at` on; an empty one at the end of the line.
 pub fn next(line: &[u8], length: usize, at: usize) -> Token {
-    let mut from = at;
-    while from < length {
-        if line[from] != b' ' {
-            break;
-        }
-        from += 1;
-    }
-    let mut to = from;
-    while to < length {
-        if line[to] == b' ' {
-            break;
-        }
-        to += 1;
-    }
+    let from = run_end(line, length, at, true);
+    let to = run_end(line, length, from, false);
     Token { from: from, to: to }
 }
 
 pub fn size(t: Token) -> usize {
-    t.to - t.from
+    if t.from < t.to { t.to - t.from } else { 0 }
+}
+
+// Whether no token is left from `at` on.
+pub fn is_done(line: &[u8], length: usize, at: usize) -> bool {
+    size(next(line, length, at)) == 0
+}
+
+fn packed_bytes(line: &[u8], from: usize, to: usize) -> u64 {
+    let mut n = 0u64;
+    let mut i = to;
+    while from < i {
+        i -= 1;
+        n = n % 0x100_0000_0000_0000 * 256 + wide(byte(line, i));
+    }
+    n
 }
 
 // The bytes of a token of at most eight, the first lowest; 0 for an empty or a longer one.
@@ -32,21 +74,24 @@ pub fn packed(line: &[u8], t: Token) -> u64 {
     if 8 < size(t) {
         return 0;
     }
-    let mut n = 0u64;
-    let mut i = t.to;
-    while t.from < i {
-        i -= 1;
-        n = n * 256 + (line[i] as u64);
-    }
-    n
+    packed_bytes(line, t.from, t.to)
 }
 
-// Whether every byte of a token is from 33 to 126.
-pub fn is_plain(line: &[u8], t: Token) -> bool {
-    let mut i = t.from;
-    while i < t.to {
-        let c = line[i];
-        if (c < 33) | (126 < c) {
+fn is_of(k: Class, c: u8) -> bool {
+    match k {
+        Class::Plain => (33 <= c) & (c <= 126),
+        Class::Hex => {
+            ((b'0' <= c) & (c <= b'9')) | ((b'a' <= c) & (c <= b'f')) | ((b'A' <= c) & (c <= b'F'))
+        }
+        Class::Flag => (c == b'T') | (c == b'F'),
+    }
+}
+
+// Whether every byte from `from` to `to` is of the class.
+pub fn are_of(k: Class, line: &[u8], from: usize, to: usize) -> bool {
+    let mut i = from;
+    while i < to {
+        if !is_of(k, byte(line, i)) {
             return false;
         }
         i += 1;
