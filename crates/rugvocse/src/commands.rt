@@ -1,6 +1,6 @@
 // The commands of a script.
-use crate::numbers::Double;
-use crate::numbers::Whole;
+use crate::numbers::Real;
+use crate::numbers::Natural;
 use crate::numbers::double;
 use crate::numbers::name;
 use crate::numbers::whole;
@@ -70,19 +70,19 @@ const GAINS: u64 = 0x736e696167;
 const SHOW: u64 = 0x776f6873;
 
 // One double and the end of the line.
-fn one_double(line: &[u8], length: usize, at: usize) -> Double {
+fn one_double(line: &[u8], length: usize, at: usize) -> Real {
     let t = next(line, length, at);
     if !is_done(line, length, t.to) {
-        return Double::Bad;
+        return Real::Bad;
     }
     double(line, t)
 }
 
 // One whole number and the end of the line.
-fn one_whole(line: &[u8], length: usize, at: usize) -> Whole {
+fn one_whole(line: &[u8], length: usize, at: usize) -> Natural {
     let t = next(line, length, at);
     if !is_done(line, length, t.to) {
-        return Whole::Bad;
+        return Natural::Bad;
     }
     whole(line, t)
 }
@@ -95,7 +95,7 @@ fn past(line: &[u8], length: usize, at: usize, word: u64) -> usize {
 
 fn channel(line: &[u8], length: usize, at: usize, s: Scene) -> Step {
     let t = next(line, length, at);
-    let Whole::Number(n) = name(line, t) else {
+    let Natural::Number(n) = name(line, t) else {
         return bad(s);
     };
     let first = t.to;
@@ -114,7 +114,7 @@ fn channel(line: &[u8], length: usize, at: usize, s: Scene) -> Step {
 }
 
 fn layer(line: &[u8], length: usize, at: usize, s: Scene) -> Step {
-    let Double::Value(z) = one_double(line, length, at) else {
+    let Real::Value(z) = one_double(line, length, at) else {
         return bad(s);
     };
     let l = s.layout;
@@ -123,7 +123,7 @@ fn layer(line: &[u8], length: usize, at: usize, s: Scene) -> Step {
 }
 
 fn row(line: &[u8], length: usize, at: usize, s: Scene) -> Step {
-    let Double::Value(y) = one_double(line, length, at) else {
+    let Real::Value(y) = one_double(line, length, at) else {
         return bad(s);
     };
     let l = s.layout;
@@ -136,10 +136,10 @@ fn row(line: &[u8], length: usize, at: usize, s: Scene) -> Step {
 
 fn anchor(line: &[u8], length: usize, at: usize, s: Scene) -> Step {
     let t = next(line, length, at);
-    let Whole::Number(n) = name(line, t) else {
+    let Natural::Number(n) = name(line, t) else {
         return bad(s);
     };
-    let Double::Value(x) = one_double(line, length, t.to) else {
+    let Real::Value(x) = one_double(line, length, t.to) else {
         return bad(s);
     };
     if !s.rowed {
@@ -160,44 +160,44 @@ fn room(word: u64, line: &[u8], length: usize, at: usize, s: Scene) -> Step {
     }
 }
 
-// Three doubles.
-pub struct Three {
+// Vector doubles.
+pub struct Vector {
     pub x: f64,
     pub y: f64,
     pub z: f64,
 }
 
-enum Triple {
-    Of(Three),
+enum Parsed {
+    Of(Vector),
     Bad,
 }
 
-fn triple(line: &[u8], a: Token, b: Token, c: Token) -> Triple {
-    let Double::Value(x) = double(line, a) else {
-        return Triple::Bad;
+fn triple(line: &[u8], a: Token, b: Token, c: Token) -> Parsed {
+    let Real::Value(x) = double(line, a) else {
+        return Parsed::Bad;
     };
-    let Double::Value(y) = double(line, b) else {
-        return Triple::Bad;
+    let Real::Value(y) = double(line, b) else {
+        return Parsed::Bad;
     };
-    let Double::Value(z) = double(line, c) else {
-        return Triple::Bad;
+    let Real::Value(z) = double(line, c) else {
+        return Parsed::Bad;
     };
-    Triple::Of(Three { x: x, y: y, z: z })
+    Parsed::Of(Vector { x: x, y: y, z: z })
 }
 
-// Three doubles and the end of the line.
-fn three(line: &[u8], length: usize, at: usize) -> Triple {
+// Vector doubles and the end of the line.
+fn three(line: &[u8], length: usize, at: usize) -> Parsed {
     let a = next(line, length, at);
     let b = next(line, length, a.to);
     let c = next(line, length, b.to);
     if !is_done(line, length, c.to) {
-        return Triple::Bad;
+        return Parsed::Bad;
     }
     triple(line, a, b, c)
 }
 
 fn extent(line: &[u8], length: usize, at: usize, s: Scene) -> Step {
-    let Triple::Of(v) = three(line, length, at) else {
+    let Parsed::Of(v) = three(line, length, at) else {
         return bad(s);
     };
     let e = Extent {
@@ -211,7 +211,7 @@ fn extent(line: &[u8], length: usize, at: usize, s: Scene) -> Step {
 }
 
 fn centre(line: &[u8], length: usize, at: usize, s: Scene) -> Step {
-    let Triple::Of(v) = three(line, length, at) else {
+    let Parsed::Of(v) = three(line, length, at) else {
         return bad(s);
     };
     let c = Centre {
@@ -269,13 +269,13 @@ fn read_point(line: &[u8], length: usize, at: usize) -> Point {
     let last = size(t) == 0;
     let v = double(line, t);
     match v {
-        Double::Value(x) => Point {
+        Real::Value(x) => Point {
             good: true,
             last: last,
             at: t.to,
             value: x,
         },
-        Double::Bad => Point {
+        Real::Bad => Point {
             good: false,
             last: last,
             at: t.to,
@@ -328,7 +328,7 @@ fn object(word: u64, line: &[u8], length: usize, at: usize, s: Scene) -> Step {
 
 // The commands with one whole number.
 fn counted(word: u64, line: &[u8], length: usize, at: usize, s: Scene) -> Step {
-    let Whole::Number(n) = one_whole(line, length, at) else {
+    let Natural::Number(n) = one_whole(line, length, at) else {
         return bad(s);
     };
     let mut r = s;
@@ -352,10 +352,10 @@ fn counted(word: u64, line: &[u8], length: usize, at: usize, s: Scene) -> Step {
 
 fn state(line: &[u8], length: usize, at: usize, s: Scene) -> Step {
     let t = next(line, length, at);
-    let Whole::Number(count) = whole(line, t) else {
+    let Natural::Number(count) = whole(line, t) else {
         return bad(s);
     };
-    let Whole::Number(oldest) = one_whole(line, length, t.to) else {
+    let Natural::Number(oldest) = one_whole(line, length, t.to) else {
         return bad(s);
     };
     let mut k = s.selector;
@@ -365,7 +365,7 @@ fn state(line: &[u8], length: usize, at: usize, s: Scene) -> Step {
 }
 
 fn filled(store: &mut [f64], line: &[u8], length: usize, at: usize, s: Scene) -> Step {
-    let Double::Value(x) = one_double(line, length, at) else {
+    let Real::Value(x) = one_double(line, length, at) else {
         return bad(s);
     };
     fill(store, x);

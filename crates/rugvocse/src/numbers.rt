@@ -7,12 +7,12 @@ use crate::text::packed;
 use crate::text::size;
 use crate::text::wide;
 
-pub enum Whole {
+pub enum Natural {
     Number(u64),
     Bad,
 }
 
-pub enum Double {
+pub enum Real {
     Value(f64),
     Bad,
 }
@@ -21,67 +21,67 @@ pub enum Double {
 const TENTH: u64 = 1844674407370955161;
 
 // A whole number with one byte more.
-fn longer(n: u64, c: u8) -> Whole {
+fn longer(n: u64, c: u8) -> Natural {
     if c < b'0' {
-        return Whole::Bad;
+        return Natural::Bad;
     }
     let d = wide(c - b'0');
     if 9 < d {
-        return Whole::Bad;
+        return Natural::Bad;
     }
     if TENTH < n {
-        return Whole::Bad;
+        return Natural::Bad;
     }
     if n == TENTH {
         if 5 < d {
-            return Whole::Bad;
+            return Natural::Bad;
         }
-        return Whole::Number(18446744073709551610 + d);
+        return Natural::Number(18446744073709551610 + d);
     }
-    Whole::Number(n * 10 + d)
+    Natural::Number(n * 10 + d)
 }
 
 // The decimal whole number from `from` to `to`, up to 2 ^ 64 - 1.
-fn whole_bytes(line: &[u8], from: usize, to: usize) -> Whole {
+fn whole_bytes(line: &[u8], from: usize, to: usize) -> Natural {
     let mut n = 0u64;
     let mut i = from;
     while i < to {
-        let Whole::Number(m) = longer(n, byte(line, i)) else {
-            return Whole::Bad;
+        let Natural::Number(m) = longer(n, byte(line, i)) else {
+            return Natural::Bad;
         };
         n = m;
         i += 1;
     }
-    Whole::Number(n)
+    Natural::Number(n)
 }
 
-pub fn whole(line: &[u8], t: Token) -> Whole {
+pub fn whole(line: &[u8], t: Token) -> Natural {
     if size(t) == 0 {
-        return Whole::Bad;
+        return Natural::Bad;
     }
     whole_bytes(line, t.from, t.to)
 }
 
 // A token's 16 hexadecimal digits behind its first byte.
-fn pattern(line: &[u8], t: Token) -> Whole {
+fn pattern(line: &[u8], t: Token) -> Natural {
     if size(t) != 17 {
-        return Whole::Bad;
+        return Natural::Bad;
     }
     let first = t.from;
     let to = t.to;
     if to <= first {
-        return Whole::Bad;
+        return Natural::Bad;
     }
     let from = first + 1;
     if !are_of(Class::Hex, line, from, to) {
-        return Whole::Bad;
+        return Natural::Bad;
     }
-    Whole::Number(replay::hex(line, from))
+    Natural::Number(replay::hex(line, from))
 }
 
 // What is read of a decimal: its digits as a number over a power of ten, how many before and after
 // the point, and whether the point was there.
-struct Decimal {
+struct Draft {
     good: bool,
     number: u64,
     power: u64,
@@ -90,15 +90,18 @@ struct Decimal {
     point: bool,
 }
 
-fn spoilt(d: Decimal) -> Decimal {
+fn spoilt(d: Draft) -> Draft {
     let mut r = d;
     r.good = false;
     r
 }
 
 // One digit more, below ten: 15 at most.
-fn with_digit(d: Decimal, v: u64) -> Decimal {
-    if (14 < d.before) | (14 < d.after) {
+fn with_digit(d: Draft, v: u64) -> Draft {
+    if 14 < d.before {
+        return spoilt(d);
+    }
+    if 14 < d.after {
         return spoilt(d);
     }
     if 14 < d.before + d.after {
@@ -117,7 +120,7 @@ fn with_digit(d: Decimal, v: u64) -> Decimal {
 }
 
 // One byte more.
-fn with_byte(d: Decimal, c: u8) -> Decimal {
+fn with_byte(d: Draft, c: u8) -> Draft {
     if c == b'.' {
         if d.point {
             return spoilt(d);
@@ -136,8 +139,8 @@ fn with_byte(d: Decimal, c: u8) -> Decimal {
     with_digit(d, v)
 }
 
-fn digits(line: &[u8], from: usize, to: usize) -> Decimal {
-    let mut d = Decimal {
+fn digits(line: &[u8], from: usize, to: usize) -> Draft {
+    let mut d = Draft {
         good: true,
         number: 0,
         power: 1,
@@ -154,55 +157,55 @@ fn digits(line: &[u8], from: usize, to: usize) -> Decimal {
 }
 
 // digits[.digits] of at most 15 digits.
-fn unsigned(line: &[u8], from: usize, to: usize) -> Double {
+fn unsigned(line: &[u8], from: usize, to: usize) -> Real {
     let d = digits(line, from, to);
     if !d.good {
-        return Double::Bad;
+        return Real::Bad;
     }
     if d.before == 0 {
-        return Double::Bad;
+        return Real::Bad;
     }
     if d.point {
         if d.after == 0 {
-            return Double::Bad;
+            return Real::Bad;
         }
     }
-    Double::Value(std::num::nearest_u64_to_f64(d.number) / std::num::nearest_u64_to_f64(d.power))
+    Real::Value(std::num::nearest_u64_to_f64(d.number) / std::num::nearest_u64_to_f64(d.power))
 }
 
 // [-]digits[.digits] of at most 15 digits.
-fn decimal(line: &[u8], t: Token) -> Double {
+fn decimal(line: &[u8], t: Token) -> Real {
     let from = t.from;
     let to = t.to;
     if byte(line, from) != b'-' {
         return unsigned(line, from, to);
     }
     if to <= from {
-        return Double::Bad;
+        return Real::Bad;
     }
     let u = unsigned(line, from + 1, to);
     match u {
-        Double::Value(x) => Double::Value(-x),
-        Double::Bad => Double::Bad,
+        Real::Value(x) => Real::Value(-x),
+        Real::Bad => Real::Bad,
     }
 }
 
-pub fn double(line: &[u8], t: Token) -> Double {
+pub fn double(line: &[u8], t: Token) -> Real {
     if size(t) == 0 {
-        return Double::Bad;
+        return Real::Bad;
     }
     if byte(line, t.from) != b'x' {
         return decimal(line, t);
     }
     let p = pattern(line, t);
     match p {
-        Whole::Number(n) => Double::Value(doubles::of_bits(n)),
-        Whole::Bad => Double::Bad,
+        Natural::Number(n) => Real::Value(doubles::of_bits(n)),
+        Natural::Bad => Real::Bad,
     }
 }
 
 // A name: 1 to 8 plain bytes, or a backslash and 16 hexadecimal digits.
-pub fn name(line: &[u8], t: Token) -> Whole {
+pub fn name(line: &[u8], t: Token) -> Natural {
     let n = size(t);
     if n == 17 {
         if byte(line, t.from) == b'\\' {
@@ -210,10 +213,10 @@ pub fn name(line: &[u8], t: Token) -> Whole {
         }
     }
     if (n == 0) | (8 < n) {
-        return Whole::Bad;
+        return Natural::Bad;
     }
     if !are_of(Class::Plain, line, t.from, t.to) {
-        return Whole::Bad;
+        return Natural::Bad;
     }
-    Whole::Number(packed(line, t))
+    Natural::Number(packed(line, t))
 }

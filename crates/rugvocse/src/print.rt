@@ -42,13 +42,21 @@ fn millionths(g: f64) -> u64 {
     0
 }
 
+// The second to the seventh byte.
+fn middle(text: &[u8; 20]) {
+    let v: &[u8] = text;
+    let from = 1usize;
+    let to = 7usize;
+    if to <= v.len() {
+        bytes(&v[from..to]);
+    }
+}
+
 // The last six digits of a number.
 fn six_digits(n: u64) {
     let mut text = [0u8; 20];
     io::decimal(1000000 + n % 1000000, &mut text);
-    let from = 1usize;
-    let to = 7usize;
-    io::write_all(STDOUT_FILENO, &text[from..to]);
+    middle(&text);
 }
 
 // A gain to six places.
@@ -80,10 +88,14 @@ fn gain(n: u64, g: f64) {
     bytes(b"\n");
 }
 
-fn gains(names: &[u64], v: &[f64], n: usize) {
+fn name_at(names: &[u64; 24], i: usize) -> u64 {
+    if i < 24 { names[i] } else { 0 }
+}
+
+fn gains(names: &[u64; 24], v: &[f64], n: usize) {
     let mut i = 0usize;
     while i < n {
-        gain(word_at(names, i), double_at(v, i));
+        gain(name_at(names, i), double_at(v, i));
         i += 1;
     }
 }
@@ -159,16 +171,16 @@ fn hash(store: &[f64], count: usize) -> u64 {
 }
 
 // The epoch of the key in a place.
-fn epoch_at(words: &[u64], p: usize) -> u64 {
-    word_at(words, p % 8 * 156 + 154)
+fn epoch(words: &[u64], p: usize) {
+    bytes(b" ");
+    number(word_at(words, p % 8 * 156 + 154));
 }
 
 // The epochs of the keys from the oldest on.
 fn epochs(words: &[u64], count: usize, oldest: usize) {
     let mut i = 0usize;
     while i < count {
-        bytes(b" ");
-        number(epoch_at(words, oldest % 8 + i % 8));
+        epoch(words, oldest % 8 + i % 8);
         i += 1;
     }
 }

@@ -1,6 +1,7 @@
 // What a script sets, and the call for gains.
 ghost use Prim.Native.Nat.{_≤_};
-ghost use lib.ListN.{length};
+ghost use mathlib.Core.Path.{_≡_};
+ghost use lib.ListN.{length, take};
 use crate::print;
 use extent::Extent;
 use gains::Centre;
@@ -82,36 +83,51 @@ pub fn with_selector(s: Scene, k: Selector) -> Step {
 
 // A length, or the slice's where that is less.
 fn within(n: usize, v: &[f64]) -> usize
-    ensures { λ r. ⌜ r ≤ length (now (v .entry)) ⌝ }
+    ensures { λ r. ⌜ (r ≤ length (now (v .entry))) × (r ≡ length (take r (now (v .entry)))) ⌝ }
 {
     if n < v.len() { n } else { v.len() }
 }
 
-// The call, over as much of the store, the point gains and the slots as the scene lends.
+// The call, over what is lent.
 fn called(s: Scene, store: &mut [f64], given: &[f64], space: &mut [f64]) -> Replied {
-    let size = within(s.size, store);
-    let count = within(s.count, given);
-    let slots = within(s.slots, space);
     let k = s.selector;
     let l = s.layout;
     let e = s.extent;
     let flags = s.flags;
     let c = s.centre;
     k.project_outcome_with_epoch(
-        &mut store[..size],
+        store,
         l,
         s.epoch,
         e,
         flags,
         c,
-        &given[..count],
-        &mut space[..slots],
+        given,
+        space,
     )
+}
+
+// The call over as many slots as the scene lends.
+fn with_slots(s: Scene, store: &mut [f64], given: &[f64], space: &mut [f64]) -> Replied {
+    let n = within(s.slots, space);
+    called(s, store, given, &mut space[..n])
+}
+
+// The call with as many point gains as the scene brings.
+fn with_points(s: Scene, store: &mut [f64], given: &[f64], space: &mut [f64]) -> Replied {
+    let n = within(s.count, given);
+    with_slots(s, store, &given[..n], space)
+}
+
+// The call over as much of the store as the scene lends.
+fn with_store(s: Scene, store: &mut [f64], given: &[f64], space: &mut [f64]) -> Replied {
+    let n = within(s.size, store);
+    with_points(s, &mut store[..n], given, space)
 }
 
 fn called_and_told(s: Scene, store: &mut [f64], space: &mut [f64]) -> Step {
     let given = s.points;
-    let reply = called(s, store, &given, space);
+    let reply = with_store(s, store, &given, space);
     let o = reply.outcome;
     let k = reply.selector;
     let l = s.layout;

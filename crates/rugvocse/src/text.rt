@@ -59,12 +59,17 @@ pub fn is_done(line: &[u8], length: usize, at: usize) -> bool {
     size(next(line, length, at)) == 0
 }
 
+// The packed bytes with one more in front.
+fn pushed(n: u64, b: u8) -> u64 {
+    n % 0x100_0000_0000_0000 * 256 + (b as u64)
+}
+
 fn packed_bytes(line: &[u8], from: usize, to: usize) -> u64 {
     let mut n = 0u64;
     let mut i = to;
     while from < i {
         i -= 1;
-        n = n % 0x100_0000_0000_0000 * 256 + wide(byte(line, i));
+        n = pushed(n, byte(line, i));
     }
     n
 }

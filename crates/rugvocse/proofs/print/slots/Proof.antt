@@ -1,0 +1,25 @@
+-- `rugvocse::print::slots` is safe and ends. Assumes nothing.
+use Prim.Native.Nat.{_-_}
+use borrow.Author.Needs.{needs}
+use Rattle.rugvocse.proofs.print.slots.Statement.{statement}
+use Rattle.rugvocse.proofs.print.slots.Tie as tie
+
+abbrev Inv-loop : tie.InvT-loop
+Inv-loop v from to i₀ i = Unit {0}
+
+abbrev μ-loop : tie.MeasureT-loop
+μ-loop v from to i₀ i = to - i
+
+pub slots-spec : {M : Type 1} → statement M
+slots-spec =
+    tie.close
+    (tie.spec
+    Inv-loop
+    μ-loop
+    (λ c. tt)
+    (λ c κs. search needs)
+    (λ c κs. search needs)
+    (λ c. search needs)
+    (λ c. search needs)
+    (λ c. tt)
+    (λ c. search needs))
