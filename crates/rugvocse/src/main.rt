@@ -1,4 +1,6 @@
 // Scene scripts in, gains out.
+ghost use Prim.Native.Nat.{_≤_};
+
 mod commands;
 mod numbers;
 mod print;
@@ -47,20 +49,48 @@ fn next_line(c: Cursor) -> Cursor {
     }
 }
 
-// The bytes of a chunk, each line obeyed where it ends.
+// The bytes of a chunk from `from` to `to`.
+fn with_bytes(line: &mut [u8], c: Cursor, chunk: &[u8], from: usize, to: usize) -> Cursor {
+    let mut r = c;
+    let mut i = from;
+    while i < to {
+        r = with_byte(line, r, text::byte(chunk, i));
+        i += 1;
+    }
+    r
+}
+
+// Where the line from `from` on ends; `to` where it goes on past that.
+fn line_end(chunk: &[u8], from: usize, to: usize) -> usize
+    ensures { λ r. ⌜ from ≤ r ⌝ }
+{
+    let mut i = from;
+    while i < to {
+        if text::byte(chunk, i) == b'\n' {
+            return i;
+        }
+        i += 1;
+    }
+    i
+}
+
+// The first bytes of a chunk, each line obeyed where it ends.
 fn chunk_of(store: &mut [f64], line: &mut [u8], chunk: &[u8], got: usize, p: Play) -> Play {
     let mut c = p.cursor;
     let mut s = p.scene;
     let mut i = 0usize;
     while i < got {
-        let b = text::byte(chunk, i);
-        if b == b'\n' {
-            s = commands::obeyed(store, line, c.length, c.number, s);
-            c = next_line(c);
-        } else {
-            c = with_byte(line, c, b);
+        let e = line_end(chunk, i, got);
+        c = with_bytes(line, c, chunk, i, e);
+        if got <= e {
+            return Play {
+                cursor: c,
+                scene: s,
+            };
         }
-        i += 1;
+        i = e + 1;
+        s = commands::obeyed(store, line, c.length, c.number, s);
+        c = next_line(c);
     }
     Play {
         cursor: c,
