@@ -1,6 +1,6 @@
 // The commands of a script.
-use crate::numbers::Real;
 use crate::numbers::Natural;
+use crate::numbers::Real;
 use crate::numbers::double;
 use crate::numbers::name;
 use crate::numbers::whole;

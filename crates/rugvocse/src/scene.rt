@@ -95,16 +95,7 @@ fn called(s: Scene, store: &mut [f64], given: &[f64], space: &mut [f64]) -> Repl
     let e = s.extent;
     let flags = s.flags;
     let c = s.centre;
-    k.project_outcome_with_epoch(
-        store,
-        l,
-        s.epoch,
-        e,
-        flags,
-        c,
-        given,
-        space,
-    )
+    k.project_outcome_with_epoch(store, l, s.epoch, e, flags, c, given, space)
 }
 
 // The call over as many slots as the scene lends.
