@@ -22,3 +22,12 @@ hexOf text from = cond (leb (from + 16) (length text)) (hexFrom 0 (slice from (f
 -- the three digits in front, each a tenth of the one before; 0 where the text has fewer
 abbrev pub threeOf : List ℕ → ℕ
 threeOf text = cond (leb 3 (length text)) (digitOf (getD text 0 0) * 100 + digitOf (getD text 1 0) * 10 + digitOf (getD text 2 0)) 0
+
+-- bytes as one number, the first lowest; the lowest 64 bits of it
+abbrev pub packedAll : List ℕ → ℕ
+packedAll [] = 0
+packedAll (c ∷ cs) = packedAll cs % 2 ^ 56 * 256 + c
+
+-- the bytes from a place to another; 0 where the text ends before
+abbrev pub packedOf : List ℕ → ℕ → ℕ → ℕ
+packedOf text from to = cond (leb to (length text)) (packedAll (slice from to text)) 0

@@ -1,6 +1,6 @@
 // What the programs that replay answers share: numbers read from a line of text.
 ghost use mathlib.Core.Path.{_≡_};
-ghost use Rattle.replay.specs.Hex.{digitOf, hexOf, threeOf};
+ghost use Rattle.replay.specs.Hex.{digitOf, hexOf, threeOf, packedOf};
 
 // The value of a hexadecimal digit, of either case.
 pub fn digit(c: u8) -> u64
@@ -38,4 +38,23 @@ pub fn three(text: &[u8]) -> u64
         return 0;
     }
     digit(text[0]) * 100 + digit(text[1]) * 10 + digit(text[2])
+}
+
+// The bytes from `from` to `to` as a number, the first lowest; 0 where the text ends before `to`.
+pub fn packed(text: &[u8], from: usize, to: usize) -> u64
+    ensures { λ r. ⌜ r ≡ packedOf (now (text .entry)) from to ⌝ }
+{
+    if text.len() < to {
+        return 0;
+    }
+    if to <= from {
+        return 0;
+    }
+    let mut sum = 0u64;
+    let mut i = to;
+    while from < i {
+        i -= 1;
+        sum = sum % 0x100_0000_0000_0000 * 256 + (text[i] as u64);
+    }
+    sum
 }

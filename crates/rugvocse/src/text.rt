@@ -59,27 +59,12 @@ pub fn is_done(line: &[u8], length: usize, at: usize) -> bool {
     size(next(line, length, at)) == 0
 }
 
-// The packed bytes with one more in front.
-fn pushed(n: u64, b: u8) -> u64 {
-    n % 0x100_0000_0000_0000 * 256 + (b as u64)
-}
-
-fn packed_bytes(line: &[u8], from: usize, to: usize) -> u64 {
-    let mut n = 0u64;
-    let mut i = to;
-    while from < i {
-        i -= 1;
-        n = pushed(n, byte(line, i));
-    }
-    n
-}
-
 // The bytes of a token of at most eight, the first lowest; 0 for an empty or a longer one.
 pub fn packed(line: &[u8], t: Token) -> u64 {
     if 8 < size(t) {
         return 0;
     }
-    packed_bytes(line, t.from, t.to)
+    replay::packed(line, t.from, t.to)
 }
 
 fn is_of(k: Class, c: u8) -> bool {
