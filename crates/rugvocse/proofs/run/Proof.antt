@@ -1,5 +1,5 @@
 -- `rugvocse::run` is safe and ends. Assumes nothing.
-use mathlib.Core.Path.{_≡_, refl}
+use mathlib.Core.Path.{_≡_}
 use borrow.Author.Needs.{needs}
 use lib.ListN.{length}
 use Rattle.rugvocse.proofs.run.Statement.{statement}

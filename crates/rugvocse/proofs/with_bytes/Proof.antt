@@ -1,6 +1,6 @@
 -- `rugvocse::with_bytes` is safe and ends. Assumes nothing.
 use Prim.Native.Nat.{_-_}
-use mathlib.Core.Path.{_≡_, refl}
+use mathlib.Core.Path.{_≡_}
 use borrow.Author.Needs.{needs}
 use lib.ListN.{length}
 use Rattle.rugvocse.proofs.with_bytes.Statement.{statement}

@@ -1,7 +1,6 @@
 -- `rugvocse::scene::within` meets its contract. Assumes nothing.
 use mathlib.Core.Path.{sym}
 use native.Mathlib.Nat.{le-refl, le-of-lt}
-use borrow.Author.Needs.{needs}
 use lib.ListN.{length}
 use lib.Seq.{length-take-le}
 use Rattle.rugvocse.proofs.scene.within.Statement.{statement}
