@@ -15,12 +15,12 @@ pub starts-length : (s : ℕ) (cs : List ℕ) → length (startsFrom s cs) ≡ s
 starts-length s [] = refl
 starts-length s (c ∷ cs) = ap suc (starts-length (min (s + c) 24) cs)
 
-starts-first : (s : ℕ) (cs : List ℕ) → getD (startsFrom s cs) 0 0 ≡ s
+pub starts-first : (s : ℕ) (cs : List ℕ) → getD (startsFrom s cs) 0 0 ≡ s
 starts-first s [] = refl
 starts-first s (c ∷ cs) = refl
 
 -- a count further
-starts-next : (s : ℕ) (cs : List ℕ) (i : ℕ) → i < length cs → getD (startsFrom s cs) (suc i) 0 ≡ min (getD (startsFrom s cs) i 0 + getD cs i 0) 24
+pub starts-next : (s : ℕ) (cs : List ℕ) (i : ℕ) → i < length cs → getD (startsFrom s cs) (suc i) 0 ≡ min (getD (startsFrom s cs) i 0 + getD cs i 0) 24
 starts-next s [] i h = absurd (omega arith)
 starts-next s (c ∷ cs) zero h = starts-first (min (s + c) 24) cs
 starts-next s (c ∷ cs) (suc i) h = starts-next (min (s + c) 24) cs i (omega arith)

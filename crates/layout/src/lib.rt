@@ -19,6 +19,7 @@ pub use places::place_of;
 pub use starts::anchor_starts;
 pub use starts::anchor_total;
 pub use starts::covered_layers;
+pub use starts::next_start;
 pub use starts::row_starts;
 pub use starts::row_total;
 

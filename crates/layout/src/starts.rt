@@ -1,16 +1,18 @@
 // Where the parts of a layout begin: the rows of layer i are those from row_starts[i] up to
 // row_starts[i + 1], and the anchors of row r those from anchor_starts[r] up to anchor_starts[r + 1].
 ghost use mathlib.Core.Path.{_≡_};
-ghost use Prim.Native.Nat.{_+_, _≤_, min};
+ghost use Prim.Native.Nat.{_+_, min};
 ghost use lib.ListN.{length};
 ghost use Rattle.layout.specs.Topology.{usedRows, usedAnchors, rowStarts, anchorStarts};
 use crate::Layout;
 
 // s + c, or 24 where that is more.
-fn next_start(s: usize, c: usize) -> usize
-    requires { ⌜ s ≤ 24 ⌝ }
+pub fn next_start(s: usize, c: usize) -> usize
     ensures { λ r. ⌜ r ≡ min (s + c) 24 ⌝ }
 {
+    if 24 < s {
+        return 24;
+    }
     if c <= 24 - s { s + c } else { 24 }
 }
 

@@ -21,7 +21,7 @@ use Rattle.field.proofs.PlaceNumbers.{filled-length}
 use Rattle.field_laws.proofs.SamePlaces.{same-filled}
 use Rattle.selector.specs.declared.Word.{Word}
 use Rattle.selector.specs.declared.Word.the-variants.{Unused, Kept, Built}
-use Rattle.selector.specs.Keys.{keyWords, keyAt, withKey}
+use Rattle.keys.specs.Keys.{keyWords, keyAt, withKey}
 use Rattle.selector.specs.Call.{Call, Found, Answer, isGain, answered, argumentQuestions, callQuestions, placeOfKey, selectedOf, wanted, keyOf, gainsBy, newPlace, built, refusedBy, acceptedWith, served, answerOf}
 use Rattle.selector.specs.Rule.{Key, packedKey, sameKey, callKey, KeptList, none, refusalBy, isHeld, leaves, isFull, withNew, afterCall, storeAfter, wordsAfter, wordBy, fresh, Typed, Right}
 use Rattle.selector.proofs.KeyLaws.{Sound, key-same, same-key, find-place, find-where, find-none}

@@ -19,7 +19,7 @@ use Rattle.field.proofs.PlaceNumbers.{filled-length}
 use Rattle.field_laws.proofs.Filling.{fill-twice, fill-other}
 use Rattle.field_laws.proofs.SameTopologies.{Doubles}
 use Rattle.field_laws.proofs.SamePlaces.{same-filled}
-use Rattle.selector.specs.Keys.{keyWords, keyAt, withKey, upTo}
+use Rattle.keys.specs.Keys.{keyWords, keyAt, withKey, upTo}
 use Rattle.selector.specs.Call.{Call, Found, question14, newPlace}
 use Rattle.selector.specs.Rule.{Key, packedKey, sameKey, KeptList, heldKeys, none, fresh}
 use Rattle.selector.proofs.Places.{grown, turned, listed-up}

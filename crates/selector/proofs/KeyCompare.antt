@@ -12,7 +12,7 @@ use lib.Seq.{slice, take-all, getD-drop, getD-take}
 use Rattle.lists.specs.Lists.{allSame}
 use Rattle.lists.proofs.Loops.{slice-more, slice-done}
 use Rattle.lists.proofs.Same.{same-next, same-not}
-use Rattle.selector.specs.Keys.{keyAt, findFrom, upTo}
+use Rattle.keys.specs.Keys.{keyAt, findFrom, upTo}
 
 -- ---- equal word by word is equal
 and-both : (a b : Bool) → (a && b) ≡ true → (a ≡ true) × (b ≡ true)

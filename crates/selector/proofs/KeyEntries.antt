@@ -20,8 +20,8 @@ use Rattle.layout.specs.Same.{sameChannel}
 use Rattle.layout.proofs.Coordinates.{all-unmap}
 use Rattle.layout.proofs.TopologyLists.{all-both}
 use Rattle.layout.proofs.SameNumbers.{eq→beq}
-use Rattle.selector.specs.Keys.{filledTo, flagNumber, pattern}
-use Rattle.selector.proofs.KeyPatterns.{pattern-eq}
+use Rattle.keys.specs.Keys.{filledTo, flagNumber, pattern}
+use Rattle.keys.proofs.KeyPatterns.{pattern-eq}
 
 -- ---- lists one behind another
 module _ {A : Type 0} where

@@ -29,12 +29,12 @@ use Rattle.field_laws.proofs.SameTopologies.{Doubles}
 use Rattle.layout.proofs.Coordinates.{zs-in-room, ys-in-room, xs-in-room}
 use Rattle.layout.proofs.SameLists.{all-true, allSame-equal}
 use Rattle.layout.proofs.SameLaws.{same-whole, same-shared}
-use Rattle.selector.specs.Keys.{flagNumber, keyWords, pattern, zPattern, yPattern, xPattern, keyAt, withKey, findFrom, upTo}
-use Rattle.selector.proofs.KeyPatterns.{eq-pattern}
+use Rattle.keys.specs.Keys.{flagNumber, keyWords, pattern, zPattern, yPattern, xPattern, keyAt, withKey, findFrom, upTo}
+use Rattle.keys.proofs.KeyPatterns.{eq-pattern}
 use Rattle.selector.proofs.KeyEntries.{apart-behind, entries-same, channel-closes, place, place-eq, all-places, taken-same, numbers-same}
 use Rattle.selector.proofs.KeyCompare.{same-equal, equal-same, eight-at}
-use Rattle.selector.proofs.KeyWhole as whole
-use Rattle.selector.proofs.KeyWhole.{names, flags, layerCounts, rowCounts, anchorNames, zs, ys, xs, parts-long, parts}
+use Rattle.keys.proofs.KeyWhole as whole
+use Rattle.keys.proofs.KeyWhole.{names, flags, layerCounts, rowCounts, anchorNames, zs, ys, xs, parts-long, parts}
 
 -- a layout whose keys tell it: accepted, with doubles that are binary64
 pub record Sound (l : Layout) : Type 0 where

@@ -1,10 +1,8 @@
-pub mod KeyParts
 pub mod KeyCompare
-pub mod KeyWhole
-pub mod KeyPatterns
 pub mod KeyEntries
 pub mod KeyLaws
 pub mod Places
+pub mod ActiveKeys
 pub mod Questions
 pub mod Held
 pub mod Serving

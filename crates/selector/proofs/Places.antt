@@ -7,7 +7,7 @@ use native.Mathlib.Nat.{eq-or-lt-of-le}
 use native.Mathlib.Omega.{arith}
 use lib.ListN.{length, getD, take, drop, length-append, length-drop, length-map, length-take, List·getD-append}
 use lib.Seq.{getD-at, getD-drop, getD-take, ext-getD}
-use Rattle.selector.specs.Keys.{upTo}
+use Rattle.keys.specs.Keys.{upTo}
 
 -- the seven places behind the oldest are not the one that a turn gives away
 not-given : (o i n : ℕ) → o < 8 → i < 7 → n ≡ 8 → (o + (1 + i)) % 8 ≡ (o + n) % 8 → ⊥

@@ -1,3 +1,4 @@
 pub mod Later
 pub mod Answers
+pub mod Words
 pub mod Whole

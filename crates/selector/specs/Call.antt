@@ -27,7 +27,7 @@ use Rattle.selector.specs.declared.Outcome.{Outcome}
 use Rattle.selector.specs.declared.Outcome.the-variants.{Refused, Gains}
 use Rattle.region.specs.Zones.{zonesOf, question8, defaultState}
 use Rattle.selection.specs.Selection.{question9, question10, selectedLayout}
-use Rattle.selector.specs.Keys.{keyWords, withKey, findFrom, upTo}
+use Rattle.keys.specs.Keys.{keyWords, withKey, findFrom, upTo}
 
 -- what a call brings, all but selector and store
 pub record Call : Type 0 where

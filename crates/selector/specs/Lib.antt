@@ -1,4 +1,3 @@
-pub mod Keys
 pub mod Call
 pub mod Steps
 pub mod Rule

@@ -18,7 +18,7 @@ use Rattle.extent.specs.Extent.{meanOf}
 use Rattle.field.specs.Place.{filled}
 use Rattle.selector.specs.declared.Word.{Word}
 use Rattle.selector.specs.declared.Word.the-variants.{Unused, Kept, Built}
-use Rattle.selector.specs.Keys.{keyWords, keyAt, withKey, upTo}
+use Rattle.keys.specs.Keys.{keyWords, keyAt, withKey, upTo}
 use Rattle.selector.specs.Call.{Call, Found, Answer, isGain, answerOf, answered, argumentQuestions, selectedOf}
 
 -- key: selected layout and epoch, doubles compared as numbers

@@ -1,44 +1,61 @@
-// The first ten questions, and what they leave: the selected layout, the mean and the radius.
+// Questions 7 to 10, and what they leave: the region state, the selected key, the mean and the radius.
 ghost use mathlib.Core.Path.{_≡_};
-ghost use Prim.Native.Nat.{_≤_};
-ghost use Rattle.layout.specs.Questions.{firstNo};
+ghost use Prim.Native.Nat.{ℕ};
+ghost use Rattle.layout.specs.declared.Layout.{Layout as LayoutValue};
+ghost use Rattle.layout.specs.Accepted.{Accepted};
 ghost use Rattle.extent.specs.Extent.{meanOf, meanRadius};
-ghost use Rattle.selection.specs.Selection.{selectedLayout};
-ghost use Rattle.region.specs.Zones.{zonesOf};
-ghost use Rattle.selector.specs.Call.{stateIn};
-ghost use Rattle.selector.specs.Steps.{refusedPlan, zoneQuestions, planQuestions};
+ghost use Rattle.keys.specs.Keys.{PackedAs, keyWords};
+ghost use Rattle.selection.specs.Selection.{selectionRefusal, selectedLayout};
+ghost use Rattle.selector.specs.Steps.{refusedPlan, zoneQuestions, objectQuestions, ChosenBy};
 use crate::Plan;
 use extent::Extent;
 use extent::Reading;
-use layout::Layout;
+use region::RegionSemanticState;
 use region::Zones;
 
-fn refused(q: u64, l: Layout) -> Plan
-    ensures { λ r. ⌜ r ≡ refusedPlan q l ⌝ }
+fn refused(q: u64) -> Plan
+    ensures { λ r. ⌜ r ≡ refusedPlan q ⌝ }
 {
     Plan {
         refusal: q,
-        layout: l,
+        state: RegionSemanticState::default(),
         mean: 0,
         radius: 0.0,
     }
 }
 
+// STUB
+fn pack_selected(
+    key: &[u64; 156],
+    places: &[f64; 52],
+    state: RegionSemanticState,
+    out: &mut [u64; 156],
+) -> u64
+    ensures { λ r. ⌜ ((l : LayoutValue) (e : ℕ) → PackedAs l e (now (key .entry)) (now (places .entry)) → Accepted l → r ≡ selectionRefusal state l) ⌝ }
+    ensures key { λ r. ⌜ ((l : LayoutValue) (e : ℕ) → PackedAs l e (now (key .entry)) (now (places .entry)) → Accepted l → r ≡ 0 → now (out .exit) ≡ keyWords (selectedLayout state l) e) ⌝ }
+{
+    0
+}
+
 // Questions 8 to 10.
-fn selected(l: Layout, flags: [bool; 6], mean: u64, radius: f64) -> Plan
-    requires { ⌜ l .depth ≤ 4 ⌝ }
-    ensures { λ r. ⌜ r .refusal ≡ firstNo (zoneQuestions l flags) ⌝ }
-    ensures chosen { λ r. ⌜ (r .refusal ≡ 0 → (r .layout ≡ selectedLayout (stateIn (zonesOf flags)) l) × (r .mean ≡ mean) × (r .radius ≡ radius)) ⌝ }
+fn selected(
+    flags: [bool; 6],
+    key: &[u64; 156],
+    places: &[f64; 52],
+    out: &mut [u64; 156],
+    mean: u64,
+    radius: f64,
+) -> Plan
+    ensures { λ r. ⌜ ((l : LayoutValue) (epoch : ℕ) → PackedAs l epoch (now (key .entry)) (now (places .entry)) → Accepted l → ChosenBy l epoch flags (zoneQuestions l flags) mean radius (now (out .exit)) r) ⌝ }
 {
     let zones = region::from_decoded_zones(flags);
     match zones {
-        Zones::Refused(q) => refused(q, l),
+        Zones::Refused(q) => refused(q),
         Zones::State(state) => {
-            let s = selection::derive_selected_layout(l, state);
-            let chosen = s.chosen;
+            let q = pack_selected(key, places, state, out);
             Plan {
-                refusal: s.refusal,
-                layout: chosen,
+                refusal: q,
+                state: state,
                 mean: mean,
                 radius: radius,
             }
@@ -46,18 +63,19 @@ fn selected(l: Layout, flags: [bool; 6], mean: u64, radius: f64) -> Plan
     }
 }
 
-// Questions 1 to 10.
-pub fn plan(l: Layout, e: Extent, flags: [bool; 6]) -> Plan
-    ensures { λ r. ⌜ r .refusal ≡ firstNo (planQuestions l e flags) ⌝ }
-    ensures chosen { λ r. ⌜ (r .refusal ≡ 0 → (r .layout ≡ selectedLayout (stateIn (zonesOf flags)) l) × (r .mean ≡ meanOf e) × (r .radius ≡ meanRadius (meanOf e))) ⌝ }
+// Questions 7 to 10. The key of the selected layout goes to `out`.
+pub fn plan(
+    e: Extent,
+    flags: [bool; 6],
+    key: &[u64; 156],
+    places: &[f64; 52],
+    out: &mut [u64; 156],
+) -> Plan
+    ensures { λ r. ⌜ ((l : LayoutValue) (epoch : ℕ) → PackedAs l epoch (now (key .entry)) (now (places .entry)) → Accepted l → ChosenBy l epoch flags (objectQuestions l e flags) (meanOf e) (meanRadius (meanOf e)) (now (out .exit)) r) ⌝ }
 {
-    let q = questions::first_no(l);
-    if q != 0 {
-        return refused(q, l);
-    }
     let reading = extent::read_extent(e);
     match reading {
-        Reading::Refused(q) => refused(q, l),
-        Reading::Read(mean, radius) => selected(l, flags, mean, radius),
+        Reading::Refused(q) => refused(q),
+        Reading::Read(mean, radius) => selected(flags, key, places, out, mean, radius),
     }
 }

@@ -1,28 +1,33 @@
 // The call for gains.
 ghost use mathlib.Core.Path.{_≡_};
-ghost use mathlib.Core.Bool.{_&&_};
-ghost use Prim.Native.Nat.{_+_, _%_, _≤_, _<_};
-ghost use lib.Dec.{ltb};
+ghost use mathlib.Core.Bool.{_&&_, true};
+ghost use Prim.Native.Nat.{ℕ, _+_, _%_, _≤_, _<_};
+ghost use lib.Dec.{eqb, ltb};
 ghost use lib.Ieee.Scale.{finite};
 ghost use lib.ListN.{length};
-ghost use Rattle.lists.specs.Lists.{all};
+ghost use lib.Seq.{slice};
+ghost use Rattle.lists.specs.Lists.{all, filter};
+ghost use Rattle.layout.specs.declared.Layout.{Layout as LayoutValue};
 ghost use Rattle.layout.specs.Questions.{firstNo, layoutQuestions};
 ghost use Rattle.field.specs.Place.{filled};
 ghost use Rattle.gains.specs.Gains.{projected};
-ghost use Rattle.selector.specs.Keys.{withKey};
-ghost use Rattle.selector.specs.Call.{isGain, keyed, served, answerOf};
-ghost use Rattle.selector.specs.Steps.{laterQuestions, ringAfter, wantedBy, foundBy, replyOf, callBy};
+ghost use Rattle.keys.specs.Keys.{withKey, PackedAs};
+ghost use Rattle.selection.specs.Selection.{selectedLayout, selectionRefusal};
+ghost use Rattle.selector.specs.Call.{isGain, answerOf};
+ghost use Rattle.selector.specs.Steps.{laterQuestions, ringAfter, foundBy, replyOf, callBy, activeIn, slotOf, wordBy, gainsSoFar, isBuilt};
 use crate::Outcome;
+use crate::Plan;
 use crate::Reply;
 use crate::Ring;
+use crate::Served;
 use crate::Word;
 use crate::asked::plan;
-use crate::keys::find;
-use crate::keys::pack;
-use crate::keys::put;
+use crate::slots::find;
+use crate::slots::put;
 use extent::Extent;
 use gains::Centre;
 use layout::Layout;
+use region::RegionSemanticState;
 
 // The doubles of a store.
 const STORE: usize = 285312;
@@ -97,6 +102,91 @@ fn next_place(r: Ring) -> usize
     (r.oldest + r.count) % 8
 }
 
+// n: how many channels of a key are active, which has the flags of `used` channels.
+fn active_in(key: &[u64], used: usize) -> usize
+    requires { ⌜ (length (now key) ≡ 156) × (used ≤ 24) ⌝ }
+    ensures { λ n. ⌜ n ≡ length (filter (eqb 1) (slice 24 (24 + used) (now (key .entry)))) ⌝ }
+{
+    let mut n = 0usize;
+    let mut i = 0usize;
+    while i < used {
+        if key[24 + i] == 1 {
+            n += 1;
+        }
+        i += 1;
+    }
+    n
+}
+
+// The gains where none are to be built, and the word.
+fn serve(
+    words: &[u64],
+    r: Ring,
+    store: &[f64],
+    key: &[u64],
+    n: usize,
+    mean: u64,
+    radius: f64,
+    c: Centre,
+    points: &[f64],
+    gains: &mut [f64],
+) -> Word
+    requires { ⌜ (length (now words) ≡ 1248) × (r .count ≤ 8) × (r .oldest < 8) × (length (now key) ≡ 156) ⌝ }
+    ensures { λ w. ⌜ w ≡ wordBy mean (slotOf (now (words .entry)) r (now (key .entry))) ⌝ }
+    ensures gains { λ _. ⌜ now (gains .exit) ≡ gainsSoFar (now (store .entry)) (now (key .entry)) (slotOf (now (words .entry)) r (now (key .entry))) n mean radius c (now (points .entry)) (now (gains .entry)) ⌝ }
+{
+    if mean == 0 {
+        gains::project(gains, store, 0, n, 1 < key[153], mean, radius, c, points);
+        return Word::Unused;
+    }
+    let p = find(words, r.count, r.oldest, key);
+    if p < 8 {
+        gains::project(gains, store, p, n, 1 < key[153], mean, radius, c, points);
+        return Word::Kept;
+    }
+    Word::Built
+}
+
+fn unserved(q: u64) -> Served
+    ensures { λ s. ⌜ s ≡ record { refusal = q; n = 0; word = Word.Unused } ⌝ }
+{
+    Served {
+        refusal: q,
+        n: 0,
+        word: Word::Unused,
+    }
+}
+
+// Questions 11 to 14 and the search, for a key.
+fn ask_and_serve(
+    words: &[u64],
+    r: Ring,
+    store: &[f64],
+    key: &[u64],
+    mean: u64,
+    radius: f64,
+    c: Centre,
+    points: &[f64],
+    gains: &mut [f64],
+) -> Served
+    requires { ⌜ (length (now words) ≡ 1248) × (length (now key) ≡ 156) ⌝ }
+    ensures { λ s. ⌜ s .refusal ≡ firstNo (laterQuestions c (now (points .entry)) (activeIn (now (key .entry))) (length (now (gains .entry))) (length (now (store .entry))) r) ⌝ }
+    ensures refused { λ s. ⌜ ((s .refusal ≡ 0 → ⊥) → now (gains .exit) ≡ now (gains .entry)) ⌝ }
+    ensures served { λ s. ⌜ (s .refusal ≡ 0 → (s .n ≡ activeIn (now (key .entry))) × (s .word ≡ wordBy mean (slotOf (now (words .entry)) r (now (key .entry)))) × (now (gains .exit) ≡ gainsSoFar (now (store .entry)) (now (key .entry)) (slotOf (now (words .entry)) r (now (key .entry))) (activeIn (now (key .entry))) mean radius c (now (points .entry)) (now (gains .entry)))) ⌝ }
+{
+    let n = active_in(key, layout::covered(key[152] as usize));
+    let q = later_no(c, points, n, gains.len(), store.len(), r);
+    if q != 0 {
+        return unserved(q);
+    }
+    let word = serve(words, r, store, key, n, mean, radius, c, points, gains);
+    Served {
+        refusal: 0,
+        n: n,
+        word: word,
+    }
+}
+
 // Builds the field of a new key, and the gains by it.
 fn build(
     words: &mut [u64],
@@ -127,13 +217,14 @@ fn build(
     }
 }
 
-// By a key that is held, or by a new one.
-fn by_key(
+// The same, for the layout that a state selects.
+fn build_selected(
     words: &mut [u64],
     r: Ring,
     store: &mut [f64],
     l: Layout,
-    epoch: u64,
+    state: RegionSemanticState,
+    key: &[u64],
     n: usize,
     mean: u64,
     radius: f64,
@@ -141,54 +232,27 @@ fn by_key(
     points: &[f64],
     gains: &mut [f64],
 ) -> Reply
-    requires { ⌜ (length (now words) ≡ 1248) × (r .count ≤ 8) × (r .oldest < 8) × (285312 ≤ length (now store)) × (firstNo (layoutQuestions l) ≡ 0) × (l .used ≤ 24) × (l .depth ≤ 4) ⌝ }
-    ensures { λ s. ⌜ s ≡ replyOf (keyed (wantedBy l epoch n mean radius c (now (points .entry)) (now (gains .entry))) (foundBy (now (words .entry)) r (now (store .entry)))) ⌝ }
-    ensures words { λ s. ⌜ now (words .exit) ≡ keyed (wantedBy l epoch n mean radius c (now (points .entry)) (now (gains .entry))) (foundBy (now (words .entry)) r (now (store .entry))) .found .words ⌝ }
-    ensures store { λ s. ⌜ now (store .exit) ≡ keyed (wantedBy l epoch n mean radius c (now (points .entry)) (now (gains .entry))) (foundBy (now (words .entry)) r (now (store .entry))) .found .store ⌝ }
-    ensures gains { λ s. ⌜ now (gains .exit) ≡ keyed (wantedBy l epoch n mean radius c (now (points .entry)) (now (gains .entry))) (foundBy (now (words .entry)) r (now (store .entry))) .gains ⌝ }
+    requires { ⌜ (length (now words) ≡ 1248) × (r .count ≤ 8) × (r .oldest < 8) × (285312 ≤ length (now store)) × (length (now key) ≡ 156) × (firstNo (layoutQuestions (selectedLayout state l)) ≡ 0) × (selectionRefusal state l ≡ 0) ⌝ }
+    ensures { λ s. ⌜ s ≡ record { outcome = Outcome.Gains n Word.Built; ring = ringAfter r } ⌝ }
+    ensures words { λ s. ⌜ now (words .exit) ≡ withKey (now (words .entry)) ((r .oldest + r .count) % 8) (now (key .entry)) ⌝ }
+    ensures store { λ s. ⌜ now (store .exit) ≡ filled (selectedLayout state l) ((r .oldest + r .count) % 8) (now (store .entry)) ⌝ }
+    ensures gains { λ s. ⌜ now (gains .exit) ≡ projected (filled (selectedLayout state l) ((r .oldest + r .count) % 8) (now (store .entry))) ((r .oldest + r .count) % 8) n (ltb 1 (selectedLayout state l .depth)) mean radius c (now (points .entry)) (now (gains .entry)) ⌝ }
 {
-    let mut space = [0u64; 156];
-    let key: &mut [u64] = &mut space;
-    pack(l, epoch, key);
-    let p = find(words, r.count, r.oldest, key);
-    if p < 8 {
-        gains::project(gains, store, p, n, 1 < l.depth, mean, radius, c, points);
-        return Reply {
-            outcome: Outcome::Gains(n, Word::Kept),
-            ring: r,
-        };
-    }
-    build(words, r, store, l, key, n, mean, radius, c, points, gains)
-}
-
-// The gains of an accepted call.
-fn serve(
-    words: &mut [u64],
-    r: Ring,
-    store: &mut [f64],
-    l: Layout,
-    epoch: u64,
-    n: usize,
-    mean: u64,
-    radius: f64,
-    c: Centre,
-    points: &[f64],
-    gains: &mut [f64],
-) -> Reply
-    requires { ⌜ (length (now words) ≡ 1248) × (r .count ≤ 8) × (r .oldest < 8) × (285312 ≤ length (now store)) × (firstNo (layoutQuestions l) ≡ 0) × (l .used ≤ 24) × (l .depth ≤ 4) ⌝ }
-    ensures { λ s. ⌜ s ≡ replyOf (served (wantedBy l epoch n mean radius c (now (points .entry)) (now (gains .entry))) (foundBy (now (words .entry)) r (now (store .entry)))) ⌝ }
-    ensures words { λ s. ⌜ now (words .exit) ≡ served (wantedBy l epoch n mean radius c (now (points .entry)) (now (gains .entry))) (foundBy (now (words .entry)) r (now (store .entry))) .found .words ⌝ }
-    ensures store { λ s. ⌜ now (store .exit) ≡ served (wantedBy l epoch n mean radius c (now (points .entry)) (now (gains .entry))) (foundBy (now (words .entry)) r (now (store .entry))) .found .store ⌝ }
-    ensures gains { λ s. ⌜ now (gains .exit) ≡ served (wantedBy l epoch n mean radius c (now (points .entry)) (now (gains .entry))) (foundBy (now (words .entry)) r (now (store .entry))) .gains ⌝ }
-{
-    if mean == 0 {
-        gains::project(gains, store, 0, n, 1 < l.depth, mean, radius, c, points);
-        return Reply {
-            outcome: Outcome::Gains(n, Word::Unused),
-            ring: r,
-        };
-    }
-    by_key(words, r, store, l, epoch, n, mean, radius, c, points, gains)
+    let s = selection::derive_selected_layout(l, state);
+    let chosen = s.chosen;
+    build(
+        words,
+        r,
+        store,
+        chosen,
+        key,
+        n,
+        mean,
+        radius,
+        c,
+        points,
+        gains,
+    )
 }
 
 fn refused(q: u64, r: Ring) -> Reply
@@ -200,8 +264,26 @@ fn refused(q: u64, r: Ring) -> Reply
     }
 }
 
+fn is_built(w: Word) -> bool
+    ensures { λ r. ⌜ r ≡ isBuilt w ⌝ }
+{
+    match w {
+        Word::Unused => false,
+        Word::Kept => false,
+        Word::Built => true,
+    }
+}
+
+// STUB
+fn is_accepted(key: &[u64; 156], places: &[f64; 52]) -> bool
+    ensures { λ r. ⌜ ((l : LayoutValue) (e : ℕ) → PackedAs l e (now (key .entry)) (now (places .entry)) → r ≡ true → firstNo (layoutQuestions l) ≡ 0) ⌝ }
+{
+    false
+}
+
 // The call over lent words: the gains of a wide object, by the fourteen questions and the eight-place
-// rule.
+// rule. The layout is handed on by value only where a field is built or a question of 1 to 6 has a no:
+// to copy it is what costs.
 pub fn project_outcome_with_epoch(
     words: &mut [u64; 1248],
     r: Ring,
@@ -220,23 +302,51 @@ pub fn project_outcome_with_epoch(
     ensures gains { λ s. ⌜ now (gains .exit) ≡ answerOf (callBy l epoch e flags c (now (points .entry)) (now (gains .entry))) (foundBy (now (words .entry)) r (now (store .entry))) .gains ⌝ }
 {
     let lent: &mut [u64] = words;
-    let made = plan(l, e, flags);
+    let mut packed = [0u64; 156];
+    let mut places = [0.0f64; 52];
+    keys::pack(l, epoch, &mut packed, &mut places);
+    if !is_accepted(&packed, &places) {
+        let q = questions::first_no(l);
+        if q != 0 {
+            return refused(q, r);
+        }
+    }
+    let mut space = [0u64; 156];
+    let made = plan(e, flags, &packed, &places, &mut space);
     if made.refusal != 0 {
         return refused(made.refusal, r);
     }
-    let chosen = made.layout;
-    let n = layout::active_count(l);
-    let q = later_no(c, points, n, gains.len(), store.len(), r);
-    if q != 0 {
-        return refused(q, r);
-    }
-    serve(
+    let key: &[u64] = &space;
+    let s = ask_and_serve(
         lent,
         r,
         store,
-        made.layout,
-        epoch,
-        n,
+        key,
+        made.mean,
+        made.radius,
+        c,
+        points,
+        gains,
+    );
+    if s.refusal != 0 {
+        return refused(s.refusal, r);
+    }
+    let word = s.word;
+    if !is_built(word) {
+        return Reply {
+            outcome: Outcome::Gains(s.n, word),
+            ring: r,
+        };
+    }
+    let state = made.state;
+    build_selected(
+        lent,
+        r,
+        store,
+        l,
+        state,
+        key,
+        s.n,
         made.mean,
         made.radius,
         c,

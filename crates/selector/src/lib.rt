@@ -6,12 +6,13 @@ ghost use Rattle.selector.specs.Rule.{SelectorLaw};
 
 mod asked;
 mod call;
-mod keys;
+mod slots;
 
 pub use call::project_outcome_with_epoch;
 use extent::Extent;
 use gains::Centre;
 use layout::Layout;
+use region::RegionSemanticState;
 
 // What an accepted call says of its field.
 pub enum Word {
@@ -114,11 +115,19 @@ pub fn selector_law()
     ensures { λ _. ⌜ SelectorLaw ⌝ }
 {}
 
-// What the first ten questions leave of a call: the number of the first no, 0 where there is none, and
-// then the selected layout, the mean and the radius.
+// What questions 7 to 10 leave of a call: the number of the first no, 0 where there is none, and then
+// the region state, the mean and the radius.
 struct Plan {
     refusal: u64,
-    layout: Layout,
+    state: RegionSemanticState,
     mean: u64,
     radius: f64,
+}
+
+// What questions 11 to 14 and the search leave: the number of the first no, 0 where there is none, and
+// then n and the word. With `Built` the gains are still to be had.
+struct Served {
+    refusal: u64,
+    n: usize,
+    word: Word,
 }

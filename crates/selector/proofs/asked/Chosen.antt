@@ -1,4 +1,4 @@
--- What the first ten questions leave. Assumes nothing.
+-- What questions 7 to 10 leave. Assumes nothing.
 use Prim.Native.Nat.{ℕ, _≤_}
 use mathlib.Core.Path.{_≡_, refl, sym, ap, ap₂, _∙_, subst}
 use mathlib.Core.Bool.{Bool, true, false, cond, true≢false, false≢true}
@@ -9,7 +9,7 @@ use lib.Dec.{eqb, ltb}
 use lib.Ieee.{Float}
 use lib.ListN.{take, getD}
 use Rattle.layout.specs.declared.Layout.{Layout}
-use Rattle.layout.specs.Questions.{Question, firstNo, layoutQuestions}
+use Rattle.layout.specs.Questions.{Question, firstNo}
 use Rattle.extent.specs.declared.Extent.{Extent}
 use Rattle.extent.specs.declared.Reading.{Reading}
 use Rattle.extent.specs.declared.Reading.the-variants as reading
@@ -17,16 +17,16 @@ use Rattle.extent.specs.Extent.{question7, meanOf, meanRadius, readOf}
 use Rattle.region.specs.declared.RegionHorizontalState.{RegionHorizontalState}
 use Rattle.region.specs.declared.RegionSemanticState.{RegionSemanticState}
 use Rattle.region.specs.declared.RegionTopBottomState.{RegionTopBottomState}
-use Rattle.selection.specs.declared.Selected.{Selected}
 use Rattle.region.specs.declared.Zones.{Zones}
 use Rattle.region.specs.declared.Zones.the-variants as zones
 use Rattle.region.specs.Zones.{zonesAmong, zonesOf, refusalOf, question8, fiveOf, sameFlag, topOf, horizontals}
-use Rattle.selection.specs.Selection.{question9, question10, selectedLayout, selectionRefusal, selectionOf}
+use Rattle.selection.specs.Selection.{question9, question10, selectedLayout, selectionRefusal}
 use Rattle.lists.specs.Lists.{allSame}
 use Rattle.selector.specs.declared.Plan.{Plan}
 use Rattle.selector.specs.Call.{stateIn}
-use Rattle.selector.specs.Steps.{zoneQuestions, planQuestions, refusedPlan}
-use Rattle.selector.proofs.Questions.{Numbered, yes-first, layout-numbered}
+use Rattle.selector.specs.Steps.{zoneQuestions, objectQuestions, refusedPlan, ChosenBy}
+use Rattle.keys.specs.Keys.{keyWords}
+use Rattle.selector.proofs.Questions.{Numbered, yes-first}
 
 -- ---- a list of questions with a no among the first
 pub first-stays : (qs rs : List Question) → (firstNo qs ≡ 0 → ⊥) → firstNo (qs ++ rs) ≡ firstNo qs
@@ -86,11 +86,8 @@ module _ (flags : List Bool) (z : Zones) (said : refusalOf z ≡ cond (question8
       go false h = absurd (omega arith)
 
 -- ---- questions 8 to 10
-module _ (l : Layout) (flags : List Bool) (mean : ℕ) (radius : Float) where
-  abbrev pub Chosen : Plan → Type 0
-  Chosen p = (p .refusal ≡ firstNo (zoneQuestions l flags)) × (p .refusal ≡ 0 → (p .layout ≡ selectedLayout (stateIn (zonesOf flags)) l) × (p .mean ≡ mean) × (p .radius ≡ radius))
-
-  pub refused-flags : (z : Zones) (q : ℕ) (p : Plan) → z ≡ zonesOf flags → refusalOf z ≡ cond (question8 flags) 0 8 → z ≡ zones.Refused q → p ≡ refusedPlan q l → Chosen p
+module _ (l : Layout) (epoch : ℕ) (flags : List Bool) (mean : ℕ) (radius : Float) (key : List ℕ) where
+  pub refused-flags : (z : Zones) (q : ℕ) (p : Plan) → z ≡ zonesOf flags → refusalOf z ≡ cond (question8 flags) 0 8 → z ≡ zones.Refused q → p ≡ refusedPlan q → ChosenBy l epoch flags (zoneQuestions l flags) mean radius key p
   unfolding zoneQuestions
   refused-flags z q p r said e m =
       let eight : q ≡ 8 = refused-eight horizontals (take 5 flags) (topOf (getD flags 5 false)) q (sym r ∙ e) in
@@ -100,58 +97,41 @@ module _ (l : Layout) (flags : List Bool) (mean : ℕ) (radius : Float) where
         λ h. absurd (omega (arith, a, h)),
       )
 
-  pub selected-flags : l .depth ≤ 4 → (z : Zones) (s : RegionSemanticState) (c : Selected) → z ≡ zonesOf flags → refusalOf z ≡ cond (question8 flags) 0 8 → z ≡ zones.State s → c ≡ selectionOf s l → Chosen (record { refusal = c .refusal; layout = c .chosen; mean = mean; radius = radius })
+  pub selected-flags : l .depth ≤ 4 → (z : Zones) (s : RegionSemanticState) (q : ℕ) → z ≡ zonesOf flags → refusalOf z ≡ cond (question8 flags) 0 8 → z ≡ zones.State s → q ≡ selectionRefusal s l → (q ≡ 0 → key ≡ keyWords (selectedLayout s l) epoch) → ChosenBy l epoch flags (zoneQuestions l flags) mean radius key (record { refusal = q; state = s; mean = mean; radius = radius })
   unfolding zoneQuestions
-  selected-flags few z s c r said e m =
+  selected-flags few z s q r said e f k =
       let y = yes-8 flags z said (ap refusalOf e) in
       let i : stateIn (zonesOf flags) ≡ s = ap stateIn (sym r ∙ e) in
       let t = stateIn (zonesOf flags) in
-      let n = selectionRefusal s l in
-      let f : c .refusal ≡ n = ap (λ (x : Selected). x .refusal) m in
       let rest : RegionSemanticState → ℕ = λ (v : RegionSemanticState). firstNo (record { number = 9; yes = question9 v l } ∷ record { number = 10; yes = question10 v l } ∷ []) in (
         f
             ∙ ap (λ (b : Bool). cond b 2 (rest s)) (le-ltb 4 (l .depth) few)
             ∙ ap rest (sym i)
             ∙ sym (ap (λ (b : Bool). cond b (rest t) 8) y),
-        λ h.
-            (ap (λ (x : Selected). x .chosen) m ∙ ap (λ (b : Bool). cond b (selectedLayout s l) l) (eq-eqb n 0 (sym f ∙ h)) ∙ ap (λ (v : RegionSemanticState). selectedLayout v l) (sym i), refl, refl),
+        λ h. (sym i, k h ∙ ap (λ (v : RegionSemanticState). keyWords (selectedLayout v l) epoch) (sym i), refl, refl),
       )
 
--- ---- questions 1 to 10
-module _ (l : Layout) (e : Extent) (flags : List Bool) where
-  abbrev pub Planned : Plan → Type 0
-  Planned p = (p .refusal ≡ firstNo (planQuestions l e flags)) × (p .refusal ≡ 0 → (p .layout ≡ selectedLayout (stateIn (zonesOf flags)) l) × (p .mean ≡ meanOf e) × (p .radius ≡ meanRadius (meanOf e)))
+-- ---- questions 7 to 10
+module _ (l : Layout) (epoch : ℕ) (e : Extent) (flags : List Bool) (key : List ℕ) where
+  abbrev Planned : Plan → Type 0
+  Planned p = ChosenBy l epoch flags (objectQuestions l e flags) (meanOf e) (meanRadius (meanOf e)) key p
 
-  abbrev rest : List Question
-  rest = record { number = 7; yes = question7 e } ∷ zoneQuestions l flags
+  pub refused-extent : (g : Reading) (q : ℕ) (p : Plan) → g ≡ readOf e → g ≡ reading.Refused q → p ≡ refusedPlan q → Planned p
+  refused-extent g q p r d m = go (question7 e) refl (sym r ∙ d)
+    where
+      go : (b : Bool) → question7 e ≡ b → cond b (reading.Read (meanOf e) (meanRadius (meanOf e))) (reading.Refused 7) ≡ reading.Refused q → Planned p
+      go true y k = absurd (true≢false (unfold isRead in ap isRead k))
+      go false y k =
+          let seven : 7 ≡ q = unfold meanIn in ap meanIn k in
+          let a : p .refusal ≡ 7 = ap (λ (x : Plan). x .refusal) m ∙ sym seven in
+          (a ∙ sym (ap (λ (b : Bool). cond b (firstNo (zoneQuestions l flags)) 7) y), λ h. absurd (omega (arith, a, h)))
 
-  pub refused-layout : (q : ℕ) (p : Plan) → q ≡ firstNo (layoutQuestions l) → (q ≡ 0 → ⊥) → p ≡ refusedPlan q l → Planned p
-  unfolding planQuestions
-  refused-layout q p f n m =
-      let a : p .refusal ≡ q = ap (λ (x : Plan). x .refusal) m in
-      (a ∙ f ∙ sym (first-stays (layoutQuestions l) rest (λ z. n (f ∙ z))), λ h. absurd (n (sym a ∙ h)))
-
-  module _ (good : firstNo (layoutQuestions l) ≡ 0) where
-    passed : firstNo (planQuestions l e flags) ≡ cond (question7 e) (firstNo (zoneQuestions l flags)) 7
-    unfolding planQuestions
-    passed = first-passes (layoutQuestions l) rest (layout-numbered l) good
-
-    pub refused-extent : (g : Reading) (q : ℕ) (p : Plan) → g ≡ readOf e → g ≡ reading.Refused q → p ≡ refusedPlan q l → Planned p
-    refused-extent g q p r d m = go (question7 e) refl (sym r ∙ d)
-      where
-        go : (b : Bool) → question7 e ≡ b → cond b (reading.Read (meanOf e) (meanRadius (meanOf e))) (reading.Refused 7) ≡ reading.Refused q → Planned p
-        go true y k = absurd (true≢false (unfold isRead in ap isRead k))
-        go false y k =
-            let seven : 7 ≡ q = unfold meanIn in ap meanIn k in
-            let a : p .refusal ≡ 7 = ap (λ (x : Plan). x .refusal) m ∙ sym seven in
-            (a ∙ sym (passed ∙ ap (λ (b : Bool). cond b (firstNo (zoneQuestions l flags)) 7) y), λ h. absurd (omega (arith, a, h)))
-
-    pub read-extent : (g : Reading) (mean : ℕ) (radius : Float) (p : Plan) → g ≡ readOf e → g ≡ reading.Read mean radius → Chosen l flags mean radius p → Planned p
-    read-extent g mean radius p r d c = go (question7 e) refl (sym r ∙ d)
-      where
-        go : (b : Bool) → question7 e ≡ b → cond b (reading.Read (meanOf e) (meanRadius (meanOf e))) (reading.Refused 7) ≡ reading.Read mean radius → Planned p
-        go true y k =
-            let m : meanOf e ≡ mean = unfold meanIn in ap meanIn k in
-            let v : meanRadius (meanOf e) ≡ radius = unfold radiusIn in ap (radiusIn radius) k in
-            (c .0 ∙ sym (passed ∙ ap (λ (b : Bool). cond b (firstNo (zoneQuestions l flags)) 7) y), λ h. let z = c .1 h in (z .0, z .1 ∙ sym m, z .2 ∙ sym v))
-        go false y k = absurd (false≢true (unfold isRead in ap isRead k))
+  pub read-extent : (g : Reading) (mean : ℕ) (radius : Float) (p : Plan) → g ≡ readOf e → g ≡ reading.Read mean radius → ChosenBy l epoch flags (zoneQuestions l flags) mean radius key p → Planned p
+  read-extent g mean radius p r d c = go (question7 e) refl (sym r ∙ d)
+    where
+      go : (b : Bool) → question7 e ≡ b → cond b (reading.Read (meanOf e) (meanRadius (meanOf e))) (reading.Refused 7) ≡ reading.Read mean radius → Planned p
+      go true y k =
+          let m : meanOf e ≡ mean = unfold meanIn in ap meanIn k in
+          let v : meanRadius (meanOf e) ≡ radius = unfold radiusIn in ap (radiusIn radius) k in
+          (c .0 ∙ sym (ap (λ (b : Bool). cond b (firstNo (zoneQuestions l flags)) 7) y), λ h. let z = c .1 h in (z .0, z .1, z .2 ∙ sym m, z .3 ∙ sym v))
+      go false y k = absurd (false≢true (unfold isRead in ap isRead k))

@@ -18,7 +18,7 @@ use Rattle.selector.specs.declared.Outcome.the-variants.{Refused, Gains}
 use Rattle.selector.specs.declared.Reply.{Reply}
 use Rattle.selector.specs.declared.Ring.{Ring}
 use Rattle.selector.specs.declared.Word.the-variants.{Unused, Kept, Built}
-use Rattle.selector.specs.Keys.{keyWords, withKey, findFrom, upTo}
+use Rattle.keys.specs.Keys.{keyWords, withKey, findFrom, upTo}
 use Rattle.selector.specs.Call.{Answer, Found, Wanted, keyOf, placeOfKey, newPlace, built, acceptedWith, keyed, served}
 use Rattle.selector.specs.Steps.{ringAfter, wantedBy, foundBy, replyOf}
 

@@ -19,6 +19,8 @@ use Rattle.gains.specs.declared.Centre.{Centre}
 use Rattle.region.specs.Zones.{zonesOf, question8}
 use Rattle.selection.specs.Selection.{question9, question10, selectedLayout}
 use Rattle.selection.proofs.Selections.{selected-yes, selected-accepted}
+use Rattle.keys.specs.Keys.{keyWords, placesOver, PackedAs}
+use Rattle.keys.proofs.KeyPlaces.{packed-as}
 use Rattle.selector.specs.declared.Outcome.{Outcome}
 use Rattle.selector.specs.declared.Outcome.the-variants.{Refused, Gains}
 use Rattle.selector.specs.declared.Reply.{Reply}
@@ -60,6 +62,11 @@ module _ (l : Layout) (e : Extent) (flags : List Bool) where
       let t = stateIn (zonesOf flags) in
       let a = selected-accepted l s t (q .0) (q .1) in
       subst (λ (x : Layout). (firstNo (layoutQuestions x) ≡ 0) × (x .used ≤ 24) × (x .depth ≤ 4)) (sym m) (selected-yes l s t (q .0) (q .1), a .fewChannels, a .fewLayers)
+
+-- ---- the key and the coordinates as they are packed
+pub packed-here : (l : Layout) → Sized l → (epoch : ℕ) (old : List Float) (key : List ℕ) (places : List Float) → length old ≡ 52 → key ≡ keyWords l epoch → places ≡ placesOver l old → PackedAs l epoch key places
+packed-here l s epoch old key places n k p =
+    subst (λ (x : List ℕ). PackedAs l epoch x places) (sym k) (subst (λ (x : List Float). PackedAs l epoch (keyWords l epoch) x) (sym p) (packed-as l s epoch old n))
 
 -- ---- the last four
 pub later-gives : (c : Centre) (points : List Float) (n slots size : ℕ) (r : Ring) (q : ℕ) → q ≡ firstNo (laterQuestions c points n slots size r) → q ≡ 0 → (r .count ≤ 8) × (r .oldest < 8) × (285312 ≤ size)

@@ -11,16 +11,16 @@ returns c =
     let z = t .before .before .before in
     let s = z .before in
     let e = z .from-decoded-zones .ensures in
-    refused-flags (s .args .l) (s .args .flags) (s .args .mean) (s .args .radius) _ _ _ (e .0) (e .1 .0) (t .before .zones .given .1) (c .refused .ensures)
+    λ l epoch w a. refused-flags l epoch (s .args .flags) (s .args .mean) (s .args .radius) _ _ _ _ (e .0) (e .1 .0) (t .before .zones .given .1) (c .refused .ensures)
 
 returns-2 : tie.Need-returns-2
 returns-2 c =
-    let d = c .before in
-    let t = d .before in
+    let t = c .before .before in
     let z = t .before .before .before in
     let s = z .before in
     let e = z .from-decoded-zones .ensures in
-    selected-flags (s .args .l) (s .args .flags) (s .args .mean) (s .args .radius) (s .pre) _ _ _ (e .0) (e .1 .0) (t .before .zones2 .given .1) (d .derive-selected-layout .ensures)
+    let k = c .pack-selected .ensures in
+    λ l epoch w a. selected-flags l epoch (s .args .flags) (s .args .mean) (s .args .radius) _ (a .fewLayers) _ _ _ (e .0) (e .1 .0) (t .before .zones2 .given .1) (k .0 l epoch w a) (k .1 l epoch w a)
 
 pub selected-spec : {M : Type 1} → statement M
 selected-spec =

@@ -1,69 +1,148 @@
--- By the first ten questions, the last four, and the gains.
-use mathlib.Core.Path.{_≡_}
+use mathlib.Core.Path.{_≡_, refl, sym, ap, _∙_}
+use mathlib.Core.Logic.{⊎-elim}
 use borrow.Author.Needs.{needs}
-use lib.ListN.{length}
 use Rattle.lists.proofs.Loops.{long}
+use Rattle.layout.specs.Questions.{firstNo, layoutQuestions}
 use Rattle.layout.proofs.Sizes.{Sized}
-use Rattle.selector.proofs.call.Whole.{plan-gives, later-gives, plan-refuses, later-refuses, call-serves}
+use Rattle.selector.proofs.call.Whole.{packed-here}
 use Rattle.selector.proofs.call.project_outcome_with_epoch.Statement.{statement}
 use Rattle.selector.proofs.call.project_outcome_with_epoch.Tie as tie
+use Rattle.selector.proofs.call.project_outcome_with_epoch.Reads as reads
+use Rattle.selector.proofs.call.project_outcome_with_epoch.Lts as lts
+use Rattle.keys.proofs.pack.Reads as pack-reads
+use Rattle.questions.proofs.first_no.Reads as first-no-reads
+use Rattle.selector.proofs.asked.plan.Reads as plan-reads
+use Rattle.selector.proofs.call.ask_and_serve.Reads as ask-and-serve-reads
+use Rattle.selector.proofs.call.build_selected.Reads as build-selected-reads
+use Rattle.selector.proofs.call.is_accepted.Reads as is-accepted-reads
+use Rattle.selector.proofs.call.is_built.Reads as is-built-reads
+use Rattle.selector.proofs.call.refused.Reads as refused-reads
 
 sized : (c : tie.Start) → Sized (c .args .l)
 sized c = search (needs, long)
 
+good : (c : tie.Joined1) → firstNo (layoutQuestions (c .before .before .before .before .before .before .before .before .before .before .before .args .l)) ≡ 0
+good c =
+    let a = c .before in
+    let k = a .before .before .before in
+    let g = k .before .before .before .before .before .before .before in
+    let p = k .pack .ensures in
+    ⊎-elim
+    (λ w. ?)
+    (λ w. a .is-accepted .ensures (g .args .l) (g .args .epoch) (packed-here (g .args .l) (sized g) (g .args .epoch) _ _ _ refl (p .0) (p .1)) ?)
+    (c .if1 .came)
+
+-- src/call.rt:307:5
+pack-requires : tie.Need-pack-requires
+pack-requires c κs = search needs
+
+-- src/call.rt:308:9
+is-accepted-requires : tie.Need-is-accepted-requires
+is-accepted-requires c κs = search needs
+
+-- src/call.rt:309:13
+first-no-requires : tie.Need-first-no-requires
+first-no-requires c κs = search needs
+
+-- src/call.rt:311:13
+refused-requires : tie.Need-refused-requires
+refused-requires c κs = search needs
+
+-- src/call.rt:311:13
 returns : tie.Need-returns
-returns c =
-    let i = c .before in
-    let p = i .before .before in
-    let s = p .before .before .before .before .before in
-    plan-refuses (s .args .words .now) (s .args .r) (s .args .store .now) (s .args .l) (s .args .epoch) (s .args .e) (s .args .flags) (s .args .c) (s .args .points .now) (s .args .gains .now) _ _ (p .plan .ensures .0) (i .if1 .taken) (c .refused .ensures)
+returns c = ?
 
+-- src/call.rt:315:9
+plan-requires : tie.Need-plan-requires
+plan-requires c κs = search needs
+
+-- src/call.rt:317:9
+refused-requires-2 : tie.Need-refused-requires-2
+refused-requires-2 c κs = search needs
+
+-- src/call.rt:317:9
 returns-2 : tie.Need-returns-2
-returns-2 c =
-    let j = c .before in
-    let q = j .before in
-    let n = q .before in
-    let i = n .before .before in
-    let p = i .before .before in
-    let s = p .before .before .before .before .before in
-    later-refuses (s .args .words .now) (s .args .r) (s .args .store .now) (s .args .l) (s .args .epoch) (s .args .e) (s .args .flags) (s .args .c) (s .args .points .now) (s .args .gains .now) _ _ _ _ (p .plan .ensures .0) (i .if1 .left) (n .active-count .ensures) (q .later-no .ensures) (j .if2 .taken) (c .refused2 .ensures)
+returns-2 c = ?
 
+-- src/call.rt:319:9
+slice-aggregate-key : tie.Need-slice-aggregate-key
+slice-aggregate-key c = search needs
+
+-- src/call.rt:320:9
+ask-and-serve-requires : tie.Need-ask-and-serve-requires
+ask-and-serve-requires c κs = ?
+
+-- src/call.rt:332:9
+refused-requires-3 : tie.Need-refused-requires-3
+refused-requires-3 c κs = search needs
+
+-- src/call.rt:332:9
+same-length : tie.Need-same-length
+same-length c = search needs
+
+-- src/call.rt:332:9
+same-length-2 : tie.Need-same-length-2
+same-length-2 c = search needs
+
+-- src/call.rt:332:9
 returns-3 : tie.Need-returns-3
-returns-3 c =
-    let g = c .before .before .before .before in
-    let j = g .before .before .before in
-    let q = j .before in
-    let n = q .before in
-    let i = n .before .before in
-    let p = i .before .before in
-    let s = p .before .before .before .before .before in
-    call-serves (s .args .words .now) (s .args .r) (s .args .store .now) (s .args .l) (s .args .epoch) (s .args .e) (s .args .flags) (s .args .c) (s .args .points .now) (s .args .gains .now) _ _ _ _ _ _ _ _ _ _ (p .plan .ensures .0) (i .if1 .left) (n .active-count .ensures) (q .later-no .ensures) (j .if2 .left) (p .plan .ensures .1 (i .if1 .left)) (g .serve .ensures)
+returns-3 c = ?
 
-serve-requires : tie.Need-serve-requires
-serve-requires c κs =
-    let j = c .before .before in
-    let q = j .before in
-    let n = q .before in
-    let i = n .before .before in
-    let p = i .before .before in
-    let s = p .before .before .before .before .before in
-    let w : length (s .args .words .now) ≡ 1248 = search needs in
-    let a = later-gives (s .args .c) (s .args .points .now) _ _ _ (s .args .r) _ (q .later-no .ensures) (j .if2 .left) in
-    let b = plan-gives (s .args .l) (s .args .e) (s .args .flags) (sized s) _ _ (p .plan .ensures .0) (i .if1 .left) (p .plan .ensures .1 (i .if1 .left) .0) in
-    (w, a .0, a .1, a .2, b .0, b .1, b .2)
+-- src/call.rt:335:9
+is-built-requires : tie.Need-is-built-requires
+is-built-requires c κs = search needs
+
+-- src/call.rt:336:9
+same-length-3 : tie.Need-same-length-3
+same-length-3 c = search needs
+
+-- src/call.rt:336:9
+same-length-4 : tie.Need-same-length-4
+same-length-4 c = search needs
+
+-- src/call.rt:336:9
+returns-4 : tie.Need-returns-4
+returns-4 c = ?
+
+-- src/call.rt:342:5
+build-selected-requires : tie.Need-build-selected-requires
+build-selected-requires c κs = ?
+
+-- src/call.rt:287:1
+same-length-5 : tie.Need-same-length-5
+same-length-5 c = search needs
+
+-- src/call.rt:287:1
+same-length-6 : tie.Need-same-length-6
+same-length-6 c = search needs
+
+-- src/call.rt:287:1
+returns-5 : tie.Need-returns-5
+returns-5 c = ?
 
 pub project-outcome-with-epoch-spec : {M : Type 1} → statement M
 project-outcome-with-epoch-spec =
     tie.close
     (tie.spec
-    (λ c κs. search needs)
-    (λ c κs. search needs)
+    pack-requires
+    is-accepted-requires
+    first-no-requires
+    refused-requires
     returns
-    (λ c κs. search needs)
-    (λ c κs. search needs)
-    (λ c κs. search needs)
+    plan-requires
+    refused-requires-2
     returns-2
-    serve-requires
-    (λ c. search needs)
-    (λ c. search needs)
-    returns-3)
+    slice-aggregate-key
+    ask-and-serve-requires
+    refused-requires-3
+    same-length
+    same-length-2
+    returns-3
+    is-built-requires
+    same-length-3
+    same-length-4
+    returns-4
+    build-selected-requires
+    same-length-5
+    same-length-6
+    returns-5)

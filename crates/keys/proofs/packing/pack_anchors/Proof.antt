@@ -1,0 +1,68 @@
+-- The names and x of the first i anchors are written.
+use Prim.Native.Nat.{_-_, _+_, _<_, _≤_}
+use mathlib.Core.Path.{_≡_, refl, sym, _∙_}
+use mathlib.Core.List.{map}
+use native.Mathlib.Numerals.{add-one}
+use native.Mathlib.Omega.{arith}
+use borrow.Author.Needs.{needs}
+use lib.ListN.{length, getD, length-map, length-set, List·getD-map}
+use Rattle.lists.proofs.Loops.{long}
+use Rattle.layout.specs.Topology.{anchorName, anchorX, noAnchor}
+use Rattle.keys.specs.Keys.{xPattern}
+use Rattle.keys.proofs.KeyParts.{Packed, packed-none, packed-more, packed-done, Pasted, pasted-none, pasted-more, pasted-done}
+use Rattle.keys.proofs.packing.pack_anchors.Statement.{statement}
+use Rattle.keys.proofs.packing.pack_anchors.Tie as tie
+
+abbrev Inv : tie.InvT-loop
+Inv n key₀ places₀ v i₀ key places i = Packed 76 (map anchorName v) 128 (map xPattern v) n key₀ key i × Pasted 28 (map anchorX v) n places₀ places i
+
+abbrev μ : tie.MeasureT-loop
+μ n key₀ places₀ v i₀ key places i = n - i
+
+fits : (c : tie.Start Inv μ) → c .args .n ≤ length (c .args .t1)
+fits c =
+    let e : length (c .args .t1) ≡ 24 = search (needs, long) in
+    omega arith
+
+holds : tie.Need-loop-holds Inv μ
+holds c =
+    let r = fits (c .before .before) in
+    (packed-none _ _ _ _ _ _ (rw length-map r) (rw length-map r) (omega arith) (omega arith), pasted-none _ _ _ _ (rw length-map r) (omega arith))
+
+again : tie.Need-loop-again Inv μ
+again c =
+    let v = c .before .before .before .loop in
+    let xs = c .before .before .before .before .before .before .args .t1 in
+    (packed-more _ _ _ _ _ _ (v .key) (v .i) _ _ _ _ _ _ (v .inv .0) (omega arith) (omega arith) refl (sym (List·getD-map anchorName xs (v .i) noAnchor)) (c .pattern-of .ensures ∙ sym (List·getD-map xPattern xs (v .i) noAnchor)), pasted-more _ _ _ _ (v .places) (v .i) _ (anchorX noAnchor) _ (v .inv .1) (omega arith) (omega arith) (sym (List·getD-map anchorX xs (v .i) noAnchor)))
+
+returns : tie.Need-returns Inv μ
+returns c =
+    let v = c .before .loop in
+    let e : v .i ≡ c .before .before .before .before .args .n = omega arith in
+    (packed-done _ _ _ _ _ _ _ _ (v .inv .0) (omega arith), pasted-done _ _ _ _ _ _ (v .inv .1) e)
+
+pub pack-anchors-spec : {M : Type 1} → statement M
+pack-anchors-spec =
+    tie.close
+    (tie.spec
+    Inv
+    μ
+    holds
+    (λ c. search needs)
+    (λ c. search needs)
+    (λ c. search needs)
+    (λ c. search needs)
+    (λ c. search needs)
+    (λ c κs. search needs)
+    (λ c. search needs)
+    (λ c. search needs)
+    (λ c. simp length-set (omega arith))
+    (λ c. search needs)
+    (λ c. search needs)
+    (λ c. search needs)
+    (λ c. search needs)
+    (λ c. search needs)
+    again
+    (λ c. search needs)
+    (λ c. search needs)
+    returns)
