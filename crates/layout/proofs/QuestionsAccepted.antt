@@ -65,7 +65,7 @@ all-yes l e =
 
 -- ---- what each answer says
 module _ (l : Layout) where
-  yes1 : question1 l ≡ true → (fromTo 1 24 (l .used) ≡ true) × (all validName (map channelName (channelsOf l)) ≡ true) × (allDistinct (map channelName (channelsOf l)) ≡ true)
+  pub yes1 : question1 l ≡ true → (fromTo 1 24 (l .used) ≡ true) × (all validName (map channelName (channelsOf l)) ≡ true) × (allDistinct (map channelName (channelsOf l)) ≡ true)
   unfolding question1
   yes1 e =
       let names = map channelName (channelsOf l) in
@@ -92,7 +92,7 @@ module _ (l : Layout) where
   unfolding question5
   yes5 e = both (ordered (map topologyZ (topologyOf l))) (all orderedLayer (topologyOf l)) e
 
-  yes6 : question6 l ≡ true → (all (λ (n : ℕ). elem n (activeNames l)) (map anchorName (usedAnchors l)) ≡ true) × (allDistinct (map anchorName (usedAnchors l)) ≡ true)
+  pub yes6 : question6 l ≡ true → (all (λ (n : ℕ). elem n (activeNames l)) (map anchorName (usedAnchors l)) ≡ true) × (allDistinct (map anchorName (usedAnchors l)) ≡ true)
   unfolding question6
   yes6 e = both (all (λ (n : ℕ). elem n (activeNames l)) (map anchorName (usedAnchors l))) (allDistinct (map anchorName (usedAnchors l))) e
 

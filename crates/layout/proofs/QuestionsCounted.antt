@@ -47,7 +47,7 @@ total-most (c ∷ cs) e =
     omega arith
 
 -- ---- `countedTo`, for a test b and a sum t
-small : (b : Bool) (t : ℕ) → cond b t 25 ≤ 24 → (b ≡ true) × (cond b t 25 ≡ t)
+pub small : (b : Bool) (t : ℕ) → cond b t 25 ≤ 24 → (b ≡ true) × (cond b t 25 ≡ t)
 small true t h = (refl, refl)
 small false t h = absurd (omega arith)
 

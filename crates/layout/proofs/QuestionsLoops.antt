@@ -40,7 +40,7 @@ all-at p (x ∷ l) zero d e h = both (p x) (all p l) e .0
 all-at p (x ∷ l) (suc i) d e h = all-at p l i d (both (p x) (all p l) e .1) (omega arith)
 
 -- ---- a name is among the first m where its place is not m
-place-most : (x : ℕ) (l : List ℕ) → placeOf x l ≤ length l
+pub place-most : (x : ℕ) (l : List ℕ) → placeOf x l ≤ length l
 place-most x [] = omega arith
 place-most x (y ∷ l) = go (eqb y x) (place-most x l)
   where

@@ -1,0 +1,5 @@
+pub mod Runs
+pub mod Distinct
+pub mod Marks
+pub mod ActiveInKey
+pub mod KeyQuestions
