@@ -109,7 +109,7 @@ pub fn matches_bed_state(state: RegionHorizontalState, name: u64, five: bool) ->
 }
 
 // Whether a name is one of those that five-x has not.
-fn is_outside_five(name: u64) -> bool
+pub fn is_outside_five(name: u64) -> bool
     ensures { λ r. ⌜ r ≡ outsideFive name ⌝ }
 {
     match name {
@@ -141,7 +141,8 @@ pub fn five_x(l: Layout) -> bool
     true
 }
 
-fn is_flc(name: u64) -> bool
+// Whether a name is FLc.
+pub fn is_flc(name: u64) -> bool
     ensures { λ r. ⌜ r ≡ isFLc name ⌝ }
 {
     name == FLC

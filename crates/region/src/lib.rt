@@ -7,6 +7,8 @@ mod flags;
 
 pub use classes::five_x;
 pub use classes::is_22_2;
+pub use classes::is_flc;
+pub use classes::is_outside_five;
 pub use classes::matches_bed_state;
 pub use flags::from_decoded_zones;
 pub use flags::is_default;

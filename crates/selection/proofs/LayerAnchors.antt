@@ -64,7 +64,7 @@ module _ (l : Layout) (z : Sized l) where
   row-start-rises : (i : ℕ) → i < 4 → getD (rowStarts l) i 0 ≤ getD (rowStarts l) (suc i) 0
   row-start-rises i h = omega (arith, row-start i (omega arith), row-start (suc i) h, total-within i (suc i) (map layerCount (l .layers)) (omega arith))
 
-  layer-start : (i : ℕ) → i ≤ 4 → getD (layerStarts l) i 0 ≡ min (total (take (getD (rowStarts l) i 0) (map rowCount (l .rows)))) 24
+  pub layer-start : (i : ℕ) → i ≤ 4 → getD (layerStarts l) i 0 ≡ min (total (take (getD (rowStarts l) i 0) (map rowCount (l .rows)))) 24
   layer-start i h =
       let n = length-map (l .rows) rowCount in
       let f : ℕ → ℕ = λ r. getD (anchorStarts l) r 0 in

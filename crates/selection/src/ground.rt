@@ -17,7 +17,8 @@ use region::RegionSemanticState;
 use region::five_x;
 use region::matches_bed_state;
 
-fn is_classed(h: RegionHorizontalState, name: u64, five: bool) -> bool
+// Whether the speaker of a name has a class.
+pub fn is_classed(h: RegionHorizontalState, name: u64, five: bool) -> bool
     ensures { λ r. ⌜ r ≡ isClassed (bedOf h name five) ⌝ }
 {
     let b = matches_bed_state(h, name, five);
@@ -28,7 +29,8 @@ fn is_classed(h: RegionHorizontalState, name: u64, five: bool) -> bool
     }
 }
 
-fn is_free(h: RegionHorizontalState) -> bool
+// Whether a horizontal state keeps all.
+pub fn is_free(h: RegionHorizontalState) -> bool
     ensures { λ r. ⌜ r ≡ isNoConstraints h ⌝ }
 {
     match h {
@@ -56,7 +58,8 @@ fn all_classed(names: &[u64], at: usize, end: usize, h: RegionHorizontalState, f
     true
 }
 
-fn is_ground(z: f64) -> bool
+// Whether a layer lies at z = 0.
+pub fn is_ground(z: f64) -> bool
     ensures { λ r. ⌜ r ≡ eq z zero ⌝ }
 {
     z == 0.0

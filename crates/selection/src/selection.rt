@@ -27,7 +27,7 @@ use region::is_include;
 use region::matches_bed_state;
 
 // How a layer keeps its anchors: an upper one goes or stays whole, others keep all or go by class.
-struct Rule {
+pub struct Rule {
     upper: bool,
     include: bool,
     whole: bool,
@@ -52,7 +52,7 @@ fn keeps_all(wide: bool, z: f64) -> bool
 }
 
 // The rule of layer i, at height z.
-fn rule_of(
+pub fn rule_of(
     wide: bool,
     five: bool,
     state: RegionSemanticState,
@@ -88,7 +88,7 @@ fn is_kept(h: RegionHorizontalState, name: u64, five: bool) -> bool
 }
 
 // Whether the anchor of a name stays.
-fn stays(rule: Rule, name: u64) -> bool
+pub fn stays(rule: Rule, name: u64) -> bool
     ensures { λ r. ⌜ r ≡ passes rule name ⌝ }
 {
     let h = rule.horizontal;

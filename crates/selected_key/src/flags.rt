@@ -1,0 +1,186 @@
+// Which anchors a region state keeps, and question 10, read from a layout's key and its coordinates.
+//
+// Where a layer's rows and anchors begin is summed up on the way. A sum stops at 24, so that every
+// key is read within its bounds; in the key of an accepted layout no sum is above 24.
+ghost use mathlib.Core.Path.{_≡_};
+ghost use mathlib.Core.Bool.{_||_, false, not};
+ghost use mathlib.Core.List.{_++_, map};
+ghost use Prim.Native.Nat.{ℕ, _+_, _≤_, min};
+ghost use lib.Ieee.{eq};
+ghost use lib.ListN.{length, take, drop, replicate};
+ghost use lib.Seq.{slice};
+ghost use Rattle.doubles.specs.Arithmetic.{zero};
+ghost use Rattle.lists.specs.Lists.{all, any, total};
+ghost use Rattle.layout.specs.declared.Layout.{Layout as LayoutValue};
+ghost use Rattle.layout.specs.Accepted.{Accepted};
+ghost use Rattle.keys.specs.Keys.{PackedAs};
+ghost use Rattle.region.specs.Classes.{bedOf, outsideFive, isFLc};
+ghost use Rattle.selection.specs.Selection.{isClassed, passes, keptFlags, question10};
+use region::RegionHorizontalState;
+use region::RegionSemanticState;
+use region::is_flc;
+use region::is_outside_five;
+use selection::Rule;
+use selection::is_classed;
+use selection::is_free;
+use selection::is_ground;
+use selection::rule_of;
+use selection::stays;
+
+// Whether none of the first names of a key is one that five-x has not.
+fn five_x(key: &[u64], used: usize) -> bool
+    requires { ⌜ used ≤ length (now key) ⌝ }
+    ensures { λ r. ⌜ r ≡ not (any outsideFive (take used (now (key .entry)))) ⌝ }
+{
+    let mut i = 0usize;
+    while i < used {
+        if is_outside_five(key[i]) {
+            return false;
+        }
+        i += 1;
+    }
+    true
+}
+
+// Whether one of the first names of a key is FLc.
+fn is_22_2(key: &[u64], used: usize) -> bool
+    requires { ⌜ used ≤ length (now key) ⌝ }
+    ensures { λ r. ⌜ r ≡ any isFLc (take used (now (key .entry))) ⌝ }
+{
+    let mut i = 0usize;
+    while i < used {
+        if is_flc(key[i]) {
+            return true;
+        }
+        i += 1;
+    }
+    false
+}
+
+// s + c, or 24 where that is more.
+fn next_start(s: usize, c: usize) -> usize
+    requires { ⌜ s ≤ 24 ⌝ }
+    ensures { λ r. ⌜ r ≡ min (s + c) 24 ⌝ }
+{
+    if c <= 24 - s { s + c } else { 24 }
+}
+
+// Where the anchors of the rows from row up to end, which begin at at, end.
+fn anchors_end(key: &[u64], row: usize, end: usize, at: usize) -> usize
+    requires { ⌜ (length (now key) ≡ 156) × (end ≤ 24) × (at ≤ 24) ⌝ }
+    ensures { λ r. ⌜ r ≡ min (at + total (slice row end (drop 52 (now (key .entry))))) 24 ⌝ }
+{
+    let mut s = at;
+    let mut r = row;
+    while r < end {
+        s = next_start(s, key[52 + r] as usize);
+        r += 1;
+    }
+    s
+}
+
+// Writes the flags of one layer, whose anchors are those from at up to end.
+fn flag_layer(kept: &mut [bool], key: &[u64], at: usize, end: usize, rule: Rule)
+    requires { ⌜ (length (now key) ≡ 156) × (length (now kept) ≡ 24) × (at ≤ end) × (end ≤ 24) ⌝ }
+    ensures { λ _. ⌜ now (kept .exit) ≡ take at (now (kept .entry)) ++ (map (passes rule) (slice at end (drop 76 (now (key .entry)))) ++ drop end (now (kept .entry))) ⌝ }
+{
+    let mut a = at;
+    while a < end {
+        kept[a] = stays(rule, key[76 + a]);
+        a += 1;
+    }
+}
+
+// Writes which anchors stay.
+pub fn kept_flags(
+    key: &[u64],
+    places: &[f64],
+    used: usize,
+    depth: usize,
+    state: RegionSemanticState,
+    kept: &mut [bool],
+)
+    requires { ⌜ (length (now key) ≡ 156) × (length (now places) ≡ 52) × (used ≤ 24) × (depth ≤ 4) × (now kept ≡ replicate 24 false) ⌝ }
+    ensures { λ _. ⌜ ((l : LayoutValue) (e : ℕ) → PackedAs l e (now (key .entry)) (now (places .entry)) → Accepted l → used ≡ l .used → depth ≡ l .depth → now (kept .exit) ≡ keptFlags state l) ⌝ }
+{
+    let wide = is_22_2(key, used);
+    let five = five_x(key, used);
+    let mut row = 0usize;
+    let mut at = 0usize;
+    let mut i = 0usize;
+    while i < depth {
+        let rows = next_start(row, key[48 + i] as usize);
+        let end = anchors_end(key, row, rows, at);
+        let rule = rule_of(wide, five, state, depth, i, places[i]);
+        flag_layer(kept, key, at, end, rule);
+        row = rows;
+        at = end;
+        i += 1;
+    }
+}
+
+// Whether each anchor from at up to end has a class.
+fn all_classed(key: &[u64], at: usize, end: usize, h: RegionHorizontalState, five: bool) -> bool
+    requires { ⌜ (length (now key) ≡ 156) × (end ≤ 24) ⌝ }
+    ensures { λ r. ⌜ r ≡ all (λ (n : ℕ). isClassed (bedOf h n five)) (slice at end (drop 76 (now (key .entry)))) ⌝ }
+{
+    let mut a = at;
+    while a < end {
+        if !is_classed(h, key[76 + a], five) {
+            return false;
+        }
+        a += 1;
+    }
+    true
+}
+
+// Whether a layer at z, with the anchors from at up to end, is not at z = 0 or they have a class.
+fn layer_classed(
+    key: &[u64],
+    at: usize,
+    end: usize,
+    z: f64,
+    h: RegionHorizontalState,
+    five: bool,
+) -> bool
+    requires { ⌜ (length (now key) ≡ 156) × (end ≤ 24) ⌝ }
+    ensures { λ r. ⌜ r ≡ (not (eq z zero) || all (λ (n : ℕ). isClassed (bedOf h n five)) (slice at end (drop 76 (now (key .entry))))) ⌝ }
+{
+    if is_ground(z) {
+        all_classed(key, at, end, h, five)
+    } else {
+        true
+    }
+}
+
+// Question 10: each anchor of the layers at z = 0 has a class.
+pub fn bed_classed(
+    key: &[u64],
+    places: &[f64],
+    used: usize,
+    depth: usize,
+    state: RegionSemanticState,
+) -> bool
+    requires { ⌜ (length (now key) ≡ 156) × (length (now places) ≡ 52) × (used ≤ 24) × (depth ≤ 4) ⌝ }
+    ensures { λ r. ⌜ ((l : LayoutValue) (e : ℕ) → PackedAs l e (now (key .entry)) (now (places .entry)) → Accepted l → used ≡ l .used → depth ≡ l .depth → r ≡ question10 state l) ⌝ }
+{
+    let h = state.horizontal;
+    if is_free(h) {
+        return true;
+    }
+    let five = five_x(key, used);
+    let mut row = 0usize;
+    let mut at = 0usize;
+    let mut i = 0usize;
+    while i < depth {
+        let rows = next_start(row, key[48 + i] as usize);
+        let end = anchors_end(key, row, rows, at);
+        if !layer_classed(key, at, end, places[i], h, five) {
+            return false;
+        }
+        row = rows;
+        at = end;
+        i += 1;
+    }
+    true
+}

@@ -1,0 +1,2 @@
+// The key of the layout that a region state selects, worked out on lent lists.
+mod flags;
