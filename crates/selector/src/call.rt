@@ -1,17 +1,16 @@
 // The call for gains.
 ghost use mathlib.Core.Path.{_≡_};
-ghost use mathlib.Core.Bool.{_&&_, true};
-ghost use Prim.Native.Nat.{ℕ, _+_, _%_, _≤_, _<_};
+ghost use mathlib.Core.Bool.{_&&_};
+ghost use Prim.Native.Nat.{_+_, _%_, _≤_, _<_};
 ghost use lib.Dec.{eqb, ltb};
 ghost use lib.Ieee.Scale.{finite};
 ghost use lib.ListN.{length};
 ghost use lib.Seq.{slice};
 ghost use Rattle.lists.specs.Lists.{all, filter};
-ghost use Rattle.layout.specs.declared.Layout.{Layout as LayoutValue};
 ghost use Rattle.layout.specs.Questions.{firstNo, layoutQuestions};
 ghost use Rattle.field.specs.Place.{filled};
 ghost use Rattle.gains.specs.Gains.{projected};
-ghost use Rattle.keys.specs.Keys.{withKey, PackedAs};
+ghost use Rattle.keys.specs.Keys.{withKey};
 ghost use Rattle.selection.specs.Selection.{selectedLayout, selectionRefusal};
 ghost use Rattle.selector.specs.Call.{isGain, answerOf};
 ghost use Rattle.selector.specs.Steps.{laterQuestions, ringAfter, foundBy, replyOf, callBy, activeIn, slotOf, wordBy, gainsSoFar, isBuilt};
@@ -274,13 +273,6 @@ fn is_built(w: Word) -> bool
     }
 }
 
-// STUB
-fn is_accepted(key: &[u64; 156], places: &[f64; 52]) -> bool
-    ensures { λ r. ⌜ ((l : LayoutValue) (e : ℕ) → PackedAs l e (now (key .entry)) (now (places .entry)) → r ≡ true → firstNo (layoutQuestions l) ≡ 0) ⌝ }
-{
-    false
-}
-
 // The call over lent words: the gains of a wide object, by the fourteen questions and the eight-place
 // rule. The layout is handed on by value only where a field is built or a question of 1 to 6 has a no:
 // to copy it is what costs.
@@ -305,11 +297,8 @@ pub fn project_outcome_with_epoch(
     let mut packed = [0u64; 156];
     let mut places = [0.0f64; 52];
     keys::pack(l, epoch, &mut packed, &mut places);
-    if !is_accepted(&packed, &places) {
-        let q = questions::first_no(l);
-        if q != 0 {
-            return refused(q, r);
-        }
+    if !questions::is_accepted(&packed, &places) {
+        return refused(questions::first_no(l), r);
     }
     let mut space = [0u64; 156];
     let made = plan(e, flags, &packed, &places, &mut space);

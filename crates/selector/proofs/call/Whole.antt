@@ -2,24 +2,28 @@
 use Prim.Native.Nat.{ℕ, _≤_, _<_}
 use mathlib.Core.Path.{_≡_, refl, sym, ap, ap₂, _∙_, subst}
 use mathlib.Core.Bool.{Bool, true, false, cond}
-use mathlib.Core.List.{List, [], _∷_, _++_, append-assoc}
+use mathlib.Core.List.{List, [], _∷_, _++_, map, append-assoc}
 use native.Mathlib.Omega.{arith}
-use borrow.Author.Tests.{leb-true, ltb-true, eq-eqb, ne-eqb}
+use borrow.Author.Tests.{leb-true, ltb-true, eq-eqb, ne-eqb, le-ltb}
 use lib.Dec.{eqb, leb, ltb}
 use lib.Ieee.{Float}
-use lib.ListN.{length}
+use lib.ListN.{length, getD, take}
 use Rattle.layout.specs.declared.Layout.{Layout}
-use Rattle.layout.specs.Channels.{activeCount}
+use Rattle.lists.specs.Lists.{filter}
+use Rattle.layout.specs.declared.Channel.{Channel}
+use Rattle.layout.specs.Channels.{activeCount, active, channelName}
 use Rattle.layout.specs.Questions.{Question, firstNo, layoutQuestions}
 use Rattle.layout.proofs.QuestionsCounted.{both}
 use Rattle.layout.proofs.Sizes.{Sized}
 use Rattle.extent.specs.declared.Extent.{Extent}
 use Rattle.extent.specs.Extent.{question7, meanOf, meanRadius}
 use Rattle.gains.specs.declared.Centre.{Centre}
+use Rattle.region.specs.declared.RegionSemanticState.{RegionSemanticState}
 use Rattle.region.specs.Zones.{zonesOf, question8}
-use Rattle.selection.specs.Selection.{question9, question10, selectedLayout}
-use Rattle.selection.proofs.Selections.{selected-yes, selected-accepted}
+use Rattle.selection.specs.Selection.{question9, question10, selectedLayout, selectionRefusal}
+use Rattle.selection.proofs.Selections.{selected-channels, selected-used, selected-sized, selected-yes}
 use Rattle.keys.specs.Keys.{keyWords, placesOver, PackedAs}
+use Rattle.keys.proofs.KeyReads.{key-reads}
 use Rattle.keys.proofs.KeyPlaces.{packed-as}
 use Rattle.selector.specs.declared.Outcome.{Outcome}
 use Rattle.selector.specs.declared.Outcome.the-variants.{Refused, Gains}
@@ -27,8 +31,9 @@ use Rattle.selector.specs.declared.Reply.{Reply}
 use Rattle.selector.specs.declared.Ring.{Ring}
 use Rattle.selector.specs.declared.Word.the-variants.{Unused}
 use Rattle.selector.specs.Call.{Call, Found, Answer, Wanted, stateIn, question14, argumentQuestions, callQuestions, wanted, served, refusedBy, answerOf}
-use Rattle.selector.specs.Steps.{laterQuestions, zoneQuestions, planQuestions, callBy, foundBy, wantedBy, replyOf}
+use Rattle.selector.specs.Steps.{laterQuestions, zoneQuestions, objectQuestions, planQuestions, activeIn, callBy, foundBy, wantedBy, replyOf}
 use Rattle.selector.proofs.Questions.{Numbered, yes-first, first-front, layout-numbered}
+use Rattle.selector.proofs.ActiveKeys.{active-in}
 use Rattle.selector.proofs.asked.Chosen.{first-stays, first-passes}
 use Rattle.selector.proofs.call.Answers.{Leaves}
 use Rattle.selector.proofs.call.Later.{located, pointed, roomy}
@@ -40,7 +45,7 @@ numbered-append (q ∷ qs) rs h k = (h .0, numbered-append qs rs (h .1) k)
 -- ---- the first ten
 module _ (l : Layout) (e : Extent) (flags : List Bool) where
   abbrev four : List Question
-  four = record { number = 7; yes = question7 e } ∷ zoneQuestions l flags
+  four = objectQuestions l e flags
 
   plan-numbered : Numbered (planQuestions l e flags)
   unfolding planQuestions zoneQuestions
@@ -55,13 +60,33 @@ module _ (l : Layout) (e : Extent) (flags : List Bool) where
       let d = yes-first (question9 (stateIn (zonesOf flags)) l) _ 9 (omega arith) (b .1) in
       (s .0, d .0)
 
-  -- what the selected layout has
-  pub plan-gives : Sized l → (p : ℕ) (chosen : Layout) → p ≡ firstNo (planQuestions l e flags) → p ≡ 0 → chosen ≡ selectedLayout (stateIn (zonesOf flags)) l → (firstNo (layoutQuestions chosen) ≡ 0) × (chosen .used ≤ 24) × (chosen .depth ≤ 4)
-  plan-gives s p chosen f z m =
-      let q = plan-says (sym f ∙ z) in
-      let t = stateIn (zonesOf flags) in
-      let a = selected-accepted l s t (q .0) (q .1) in
-      subst (λ (x : Layout). (firstNo (layoutQuestions x) ≡ 0) × (x .used ≤ 24) × (x .depth ≤ 4)) (sym m) (selected-yes l s t (q .0) (q .1), a .fewChannels, a .fewLayers)
+  module _ (good : firstNo (layoutQuestions l) ≡ 0) (p : ℕ) (f : p ≡ firstNo four) where
+    pub with-layout : p ≡ firstNo (planQuestions l e flags)
+    unfolding planQuestions
+    with-layout = f ∙ sym (first-passes (layoutQuestions l) four (layout-numbered l) good)
+
+    -- what the selected layout has
+    module _ (s : Sized l) (z : p ≡ 0) where
+      pub chosen-yes : firstNo (layoutQuestions (selectedLayout (stateIn (zonesOf flags)) l)) ≡ 0
+      chosen-yes = let q = plan-says (sym with-layout ∙ z) in selected-yes l s (stateIn (zonesOf flags)) (q .0) (q .1)
+
+      pub chosen-passes : l .depth ≤ 4 → selectionRefusal (stateIn (zonesOf flags)) l ≡ 0
+      unfolding zoneQuestions
+      chosen-passes few =
+          let a = yes-first (question7 e) _ 7 (omega arith) (sym f ∙ z) in
+          let b = yes-first (question8 flags) _ 8 (omega arith) (a .1) in
+          ap (λ (x : Bool). cond x 2 (firstNo (record { number = 9; yes = question9 (stateIn (zonesOf flags)) l } ∷ record { number = 10; yes = question10 (stateIn (zonesOf flags)) l } ∷ []))) (le-ltb 4 (l .depth) few) ∙ b .1
+
+-- ---- the key of the selected layout
+module _ (l : Layout) (s : Sized l) (t : RegionSemanticState) (epoch : ℕ) (key : List ℕ) (k : key ≡ keyWords (selectedLayout t l) epoch) where
+  pub key-depth : getD key 153 0 ≡ selectedLayout t l .depth
+  key-depth = ap (λ (x : List ℕ). getD x 153 0) k ∙ key-reads (selectedLayout t l) (selected-sized l s t) epoch .depth
+
+  pub key-active : activeIn key ≡ activeCount l
+  key-active =
+      ap activeIn k
+      ∙ active-in (selectedLayout t l) (selected-sized l s t) epoch
+      ∙ ap₂ (λ (n : ℕ) (cs : List Channel). length (map channelName (filter active (take n cs)))) (selected-used t l) (selected-channels t l)
 
 -- ---- the key and the coordinates as they are packed
 pub packed-here : (l : Layout) → Sized l → (epoch : ℕ) (old : List Float) (key : List ℕ) (places : List Float) → length old ≡ 52 → key ≡ keyWords l epoch → places ≡ placesOver l old → PackedAs l epoch key places
@@ -119,6 +144,10 @@ module _ (words : List ℕ) (r : Ring) (store : List Float) (l : Layout) (epoch 
 
   pub plan-refuses : (p : ℕ) (reply : Reply) → p ≡ firstNo P → (p ≡ 0 → ⊥) → reply ≡ record { outcome = Refused p; ring = r } → Leaves (answerOf C F) reply words store gains
   plan-refuses p reply f n m = refused-leaves p reply (by-plan p f n) n m
+
+  pub layout-refuses : (q : ℕ) (reply : Reply) → q ≡ firstNo (layoutQuestions l) → (q ≡ 0 → ⊥) → reply ≡ record { outcome = Refused q; ring = r } → Leaves (answerOf C F) reply words store gains
+  unfolding planQuestions
+  layout-refuses q reply f n m = plan-refuses q reply (f ∙ sym (first-stays (layoutQuestions l) (four l e flags) (λ z. n (f ∙ z)))) n m
 
   pub later-refuses : (p n q : ℕ) (reply : Reply) → p ≡ firstNo P → p ≡ 0 → n ≡ activeCount l → q ≡ firstNo (L n) → (q ≡ 0 → ⊥) → reply ≡ record { outcome = Refused q; ring = r } → Leaves (answerOf C F) reply words store gains
   later-refuses p n q reply f z m g k o = refused-leaves q reply (by-later p f z n q m g) k o
