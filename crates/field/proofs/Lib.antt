@@ -1,5 +1,6 @@
 pub mod Patching
 pub mod Tables
+pub mod SameColumns
 pub mod ResponseOrder
 pub mod ResponseSamples
 pub mod ResponseRows

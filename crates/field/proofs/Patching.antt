@@ -170,3 +170,9 @@ write-more a k g xs =
     let s : a + k + 1 ≡ a + (k + 1) = omega arith in
     let d : a + k - a ≡ k = omega arith in
     rw (s, d) at (within-more a (a + k) (λ (i : ℕ). g (i - a)) xs (omega arith))
+
+-- one more by a copy of an earlier one
+pub copy-more : (a k j : ℕ) (g : ℕ → Float) (xs : List Float) (d : Float) → j < k → a + k ≤ length xs → g j ≡ g k → set (patched (within a (a + k)) (λ (i : ℕ). g (i - a)) xs) (a + k) (getD (patched (within a (a + k)) (λ (i : ℕ). g (i - a)) xs) (a + j) d) ≡ patched (within a (a + (k + 1))) (λ (i : ℕ). g (i - a)) xs
+copy-more a k j g xs d h l q =
+    let e : a + j - a ≡ j = omega arith in
+    rw (getD-written (within a (a + k)) (λ (i : ℕ). g (i - a)) xs (a + j) d (omega arith) (within-holds a (a + k) (a + j) (omega arith) (omega arith)), e, q) (write-more a k g xs)

@@ -2,4 +2,5 @@ pub mod Knots
 pub mod Responses
 pub mod Patched
 pub mod Tables
+pub mod Columns
 pub mod Place

@@ -1,4 +1,5 @@
 // The spread field of a room: the axis responses, and the tables in the store.
+mod columns;
 mod knots;
 mod place;
 mod response;

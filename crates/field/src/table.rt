@@ -7,6 +7,8 @@ ghost use Rattle.extent.specs.Kernel.{kernelOf};
 ghost use Rattle.field.specs.Knots.{Z, steps};
 ghost use Rattle.field.specs.Tables.{sampledOver, knotNumber, numberXY, row};
 ghost use Rattle.field.specs.Patched.{patched, within, either};
+ghost use Rattle.field.specs.Columns.{Firsts};
+use crate::columns::first_columns;
 use crate::knots::radius_knot;
 use crate::knots::step;
 use extent::compact_quartic_kernel;
@@ -43,57 +45,109 @@ fn sampled(kernels: &[f64], responses: &[f64], samples: usize, k: usize, exponen
     sum
 }
 
-// The numbers of all n channels, from `from` on.
+// The numbers of all n channels, from `from` on. Channels with one column have one number, which is
+// worked out for the first of them.
 fn sampled_response(
     store: &mut [f64],
     from: usize,
     n: usize,
     kernels: &[f64],
     responses: &[f64],
+    firsts: &[usize],
     samples: usize,
     exponent: f64,
 )
     requires { ⌜ (from + n ≤ length (now store)) × (n ≤ 24) × (samples ≤ 20) × (samples ≤ length (now kernels)) × (480 ≤ length (now responses)) ⌝ }
+    requires { ⌜ Firsts (now responses) samples n (now firsts) ⌝ }
     ensures { λ _. ⌜ now (store .exit) ≡ patched (within from (from + n)) (λ (i : ℕ). sampledOver (λ (s : ℕ). getD (now (kernels .entry)) s nan) (λ (s : ℕ). getD (now (responses .entry)) (s * 24 + (i - from)) nan) exponent samples) (now (store .entry)) ⌝ }
 {
     let mut k = 0usize;
     while k < n {
-        store[from + k] = sampled(kernels, responses, samples, k, exponent);
+        let j = firsts[k];
+        if j < k {
+            store[from + k] = store[from + j];
+        } else {
+            store[from + k] = sampled(kernels, responses, samples, k, exponent);
+        }
         k += 1;
     }
 }
 
 // One centre and radius of X and of Y, which share the kernel.
-fn knot_xy(store: &mut [f64], base: usize, n: usize, x: &[f64], y: &[f64], knot: usize)
+fn knot_xy(
+    store: &mut [f64],
+    base: usize,
+    n: usize,
+    x: &[f64],
+    y: &[f64],
+    firstx: &[usize],
+    firsty: &[usize],
+    knot: usize,
+)
     requires { ⌜ (base + 1400 * n ≤ length (now store)) × (n ≤ 24) × (knot < 700) ⌝ }
     requires { ⌜ (480 ≤ length (now x)) × (480 ≤ length (now y)) ⌝ }
+    requires { ⌜ Firsts (now x) 20 n (now firstx) ⌝ }
+    requires { ⌜ Firsts (now y) 20 n (now firsty) ⌝ }
     ensures { λ _. ⌜ now (store .exit) ≡ patched (either (row base n knot) (row base n (700 + knot))) (λ (i : ℕ). numberXY (now (x .entry)) (now (y .entry)) ((i - base) / n) ((i - base) % n)) (now (store .entry)) ⌝ }
 {
     let mut kernel = [0.0f64; 20];
     let radius = radius_knot(knot % 20);
     let exponent = shaping_exponent(radius);
     kernels(&mut kernel, 20, step(knot / 20, 34), radius, false);
-    sampled_response(store, base + knot * n, n, &kernel, x, 20, exponent);
-    sampled_response(store, base + (700 + knot) * n, n, &kernel, y, 20, exponent);
+    sampled_response(store, base + knot * n, n, &kernel, x, firstx, 20, exponent);
+    sampled_response(
+        store,
+        base + (700 + knot) * n,
+        n,
+        &kernel,
+        y,
+        firsty,
+        20,
+        exponent,
+    );
 }
 
 // The tables of X and Y: 35 centres of 20 radii.
+fn knots_xy(
+    store: &mut [f64],
+    base: usize,
+    n: usize,
+    x: &[f64],
+    y: &[f64],
+    firstx: &[usize],
+    firsty: &[usize],
+)
+    requires { ⌜ (base + 1400 * n ≤ length (now store)) × (1 ≤ n) × (n ≤ 24) ⌝ }
+    requires { ⌜ (480 ≤ length (now x)) × (480 ≤ length (now y)) ⌝ }
+    requires { ⌜ Firsts (now x) 20 n (now firstx) ⌝ }
+    requires { ⌜ Firsts (now y) 20 n (now firsty) ⌝ }
+    ensures { λ _. ⌜ now (store .exit) ≡ patched (within base (base + 1400 * n)) (λ (i : ℕ). numberXY (now (x .entry)) (now (y .entry)) ((i - base) / n) ((i - base) % n)) (now (store .entry)) ⌝ }
+{
+    let mut knot = 0usize;
+    while knot < 700 {
+        knot_xy(store, base, n, x, y, firstx, firsty, knot);
+        knot += 1;
+    }
+}
+
+// The same, for any responses.
 pub fn table_xy(store: &mut [f64], base: usize, n: usize, x: &[f64], y: &[f64])
     requires { ⌜ (base + 1400 * n ≤ length (now store)) × (1 ≤ n) × (n ≤ 24) ⌝ }
     requires { ⌜ (480 ≤ length (now x)) × (480 ≤ length (now y)) ⌝ }
     ensures { λ _. ⌜ now (store .exit) ≡ patched (within base (base + 1400 * n)) (λ (i : ℕ). numberXY (now (x .entry)) (now (y .entry)) ((i - base) / n) ((i - base) % n)) (now (store .entry)) ⌝ }
 {
-    let mut knot = 0usize;
-    while knot < 700 {
-        knot_xy(store, base, n, x, y, knot);
-        knot += 1;
-    }
+    let mut firstx = [0usize; 24];
+    let mut firsty = [0usize; 24];
+    first_columns(&mut firstx, n, x, 20);
+    first_columns(&mut firsty, n, y, 20);
+    knots_xy(store, base, n, x, y, &firstx, &firsty);
 }
 
 // One centre and radius of Z.
-fn knot_z(store: &mut [f64], base: usize, n: usize, z: &[f64], knot: usize)
+fn knot_z(store: &mut [f64], base: usize, n: usize, z: &[f64], firstz: &[usize], knot: usize)
     requires { ⌜ (base + 1480 * n ≤ length (now store)) × (n ≤ 24) × (knot < 80) ⌝ }
     requires { ⌜ 480 ≤ length (now z) ⌝ }
+    requires { ⌜ Firsts (now z) 8 n (now firstz) ⌝ }
     ensures { λ _. ⌜ now (store .exit) ≡ patched (row base n (1400 + knot)) (λ (i : ℕ). knotNumber Z (now (z .entry)) ((i - base) / n - 1400) ((i - base) % n)) (now (store .entry)) ⌝ }
 {
     let mut kernel = [0.0f64; 20];
@@ -105,22 +159,35 @@ fn knot_z(store: &mut [f64], base: usize, n: usize, z: &[f64], knot: usize)
         n,
         &kernel,
         z,
+        firstz,
         8,
         shaping_exponent(radius),
     );
 }
 
 // The table of Z: 4 centres of 20 radii.
+fn knots_z(store: &mut [f64], base: usize, n: usize, z: &[f64], firstz: &[usize])
+    requires { ⌜ (base + 1480 * n ≤ length (now store)) × (1 ≤ n) × (n ≤ 24) ⌝ }
+    requires { ⌜ 480 ≤ length (now z) ⌝ }
+    requires { ⌜ Firsts (now z) 8 n (now firstz) ⌝ }
+    ensures { λ _. ⌜ now (store .exit) ≡ patched (within (base + 1400 * n) (base + 1480 * n)) (λ (i : ℕ). knotNumber Z (now (z .entry)) ((i - base) / n - 1400) ((i - base) % n)) (now (store .entry)) ⌝ }
+{
+    let mut knot = 0usize;
+    while knot < 80 {
+        knot_z(store, base, n, z, firstz, knot);
+        knot += 1;
+    }
+}
+
+// The same, for any responses.
 pub fn table_z(store: &mut [f64], base: usize, n: usize, z: &[f64])
     requires { ⌜ (base + 1480 * n ≤ length (now store)) × (1 ≤ n) × (n ≤ 24) ⌝ }
     requires { ⌜ 480 ≤ length (now z) ⌝ }
     ensures { λ _. ⌜ now (store .exit) ≡ patched (within (base + 1400 * n) (base + 1480 * n)) (λ (i : ℕ). knotNumber Z (now (z .entry)) ((i - base) / n - 1400) ((i - base) % n)) (now (store .entry)) ⌝ }
 {
-    let mut knot = 0usize;
-    while knot < 80 {
-        knot_z(store, base, n, z, knot);
-        knot += 1;
-    }
+    let mut firstz = [0usize; 24];
+    first_columns(&mut firstz, n, z, 8);
+    knots_z(store, base, n, z, &firstz);
 }
 
 // An end response: the n responses at one sample.

@@ -11,7 +11,7 @@ use Rattle.field.proofs.table.knot_xy.Statement.{statement}
 use Rattle.field.proofs.table.knot_xy.Tie as tie
 
 abbrev start : tie.After-sampled-response-arg → tie.Start
-start c = c .before .before .before .before .before .before .before .before .before .before
+start c = c .before .before .before .before .before .before .before .before .before .before .before .before
 
 abbrev start-2 : tie.After-sampled-response-arg2 → tie.Start
 start-2 c = start (c .before .before .before .before .before)
@@ -29,9 +29,9 @@ returns c =
     let first = second .before .before .before .before .before in
     let ks = first .before .before .before .before in
     let rk = ks .before .before .before .before in
-    let a = rk .before .before .before .before .args in
+    let a = rk .before .before .before .before .before .before .args in
     rw (second .sampled-response2 .ensures, first .sampled-response .ensures, ks .kernels .ensures, ks .before .step .ensures, ks .before .before .before .shaping-exponent .ensures, rk .radius-knot .ensures)
-    (knot-XY (a .base) (a .n) (a .knot) (a .x .now) (a .y .now) (replicate 20 (Ieee.ofBits binary64 0)) (a .store .now) (omega arith) (omega arith))
+    (knot-XY (a .base) (a .n) (a .knot) (a .x .now) (a .y .now) (replicate 20 (Ieee.ofBits binary64 0)) (a .store .now) (rk .before .before .before .before .before .before .pre .0 .2) (omega arith))
 
 pub knot-xy-spec : {M : Type 1} → statement M
 knot-xy-spec =
@@ -45,11 +45,11 @@ knot-xy-spec =
     (λ c. omega (arith, room-x (start c)))
     (λ c. omega (arith, room-x (start c)))
     (λ c. search needs)
-    (λ c κs. omega (arith, room-x (start (c .before))))
+    (λ c κs. (omega (arith, room-x (start (c .before))), start (c .before) .pre .1 .1 .0))
     (λ c. search needs)
     (λ c. omega (arith, room-y (start-2 c)))
     (λ c. omega (arith, room-y (start-2 c)))
     (λ c. search needs)
-    (λ c κs. omega (arith, room-y (start-2 (c .before))))
+    (λ c κs. (omega (arith, room-y (start-2 (c .before))), start-2 (c .before) .pre .1 .1 .1))
     (λ c. search needs)
     returns)

@@ -11,7 +11,7 @@ use Rattle.field.proofs.table.knot_z.Statement.{statement}
 use Rattle.field.proofs.table.knot_z.Tie as tie
 
 abbrev start : tie.After-sampled-response-arg → tie.Start
-start c = c .before .before .before .before .before .before .before .before
+start c = c .before .before .before .before .before .before .before .before .before
 
 -- the row ends within the rows
 room : (c : tie.Start) → (1400 + c .args .knot) * c .args .n + c .args .n ≤ 1480 * c .args .n
@@ -22,7 +22,7 @@ returns c =
     let sr = c .before .before in
     let ks = sr .before .before .before .before .before in
     let rk = ks .before .before .before in
-    let a = rk .before .before .before .args in
+    let a = rk .before .before .before .before .args in
     rw (sr .sampled-response .ensures, sr .before .shaping-exponent .ensures, ks .kernels .ensures, ks .before .step .ensures, rk .radius-knot .ensures)
     (knot-Z (a .base) (a .n) (a .knot) (a .z .now) (replicate 20 (Ieee.ofBits binary64 0)) (a .store .now) (omega arith))
 
@@ -39,6 +39,6 @@ knot-z-spec =
     (λ c. omega (arith, room (start c)))
     (λ c. search needs)
     (λ c κs. search needs)
-    (λ c κs. omega (arith, room (start (c .before .before))))
+    (λ c κs. (omega (arith, room (start (c .before .before))), start (c .before .before) .pre .1 .1))
     (λ c. search needs)
     returns)
