@@ -6,11 +6,12 @@ use native.Mathlib.Nat as nat
 use mathlib.Core.Bool.{Bool, true, false, not, _&&_, cond}
 use lib.IntN.{ℤ, pos}
 use lib.Arith.{le→nltb}
-use lib.Dec.{T, ltb, lt→ltb}
-use lib.Ieee.{Float, nan, inf, fin, Format, up, down, round, sum, add, fits}
+use lib.Dec.{T, T-not, ltb, lt→ltb}
+use lib.Ieee.{Float, nan, inf, fin, Format, up, down, round, sum, add, lt, fits}
 use lib.Ieee.Fits.{up-pos, down-pos}
 use lib.Ieee.Bits.{is-true, is-false}
 use lib.Ieee.Exact.{HasValue}
+use lib.Ieee.Scale.{finite}
 use Rattle.doubles.proofs.Magnitude.{round-self, same-value}
 use Rattle.doubles.proofs.Signs.{clear}
 use Rattle.doubles.proofs.Fractions.{add-of}
@@ -73,3 +74,16 @@ not-minus f (fin true (suc m) e) h n = tt
 
 pub add-zero : (f : Format) (x : Float) → T (fits f x) → (x ≡ fin true 0 (pos 0) → ⊥) → add f x (fin false 0 (pos 0)) ≡ x
 add-zero f x h n = add-zero-same f x h (not-minus f x h n)
+
+-- a finite value that has no sign and is not above 0 is +0
+pub not-above : (f : Format) (x : Float) → T (fits f x) → T (finite x) → T (clear x) → T (not (lt (fin false 0 (pos 0)) x)) → x ≡ fin false 0 (pos 0)
+unfolding lt
+not-above f nan h t c l = absurd t
+not-above f (inf s) h t c l = absurd t
+not-above f (fin true m e) h t c l = absurd c
+not-above f (fin false zero e) h t c l = zero-is f false e h
+not-above f (fin false (suc m) e) h t c l =
+    absurd (T-not (ltb (0 * up (pos 0) * down e) (suc m * up e * down (pos 0))) l (lt→ltb (0 * up (pos 0) * down e) (suc m * up e * down (pos 0)) (above e (up e) (down e) (up-pos e))))
+  where
+    above : (e : ℤ) (a b : ℕ) → 0 < a → 0 * 1 * b < suc m * a * 1
+    above e a b p = rw (zero-mul b) (mul-pos (mul-pos (zero-lt-suc m) p) (zero-lt-suc 0))

@@ -128,6 +128,10 @@ exp2-clear v h = exponential.exp2-clear v h
 pub exp2-finite : (v : Float) → T (finite (exp2Of v))
 exp2-finite v = exponential.exp2-finite v
 
+-- where it is not above 0, it is 0
+pub exp2-zero : (v : Float) → T (fits binary64 v) → T (not (lt zero (exp2Of v))) → exp2Of v ≡ zero
+exp2-zero v h l = exponential.exp2-zero v h l
+
 -- ---- normalising
 
 -- with a finite sum of squares above 0, a value that is not negative, over the root of the sum, is from 0 to 5/4

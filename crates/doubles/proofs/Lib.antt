@@ -9,5 +9,6 @@ pub mod Interpolation
 pub mod Differences
 pub mod Bound
 pub mod Laws
+pub mod FirstMapped
 pub mod Ratio
 pub mod Weights

@@ -5,5 +5,6 @@ pub mod Power
 pub mod Circular
 pub mod Exp2
 pub mod Log2
+pub mod Powers
 pub mod Range
 pub mod Norm

@@ -6,6 +6,7 @@ ghost use lib.IntN.{pos};
 ghost use lib.Ieee.{binary64, fin, lt, le, toSigned};
 ghost use Rattle.doubles.specs.Power.{pow2Of};
 ghost use Rattle.doubles.specs.Exp2.{polynomialOf, finiteOrZero, NormalExponent, exp2Of};
+ghost use Rattle.doubles.specs.Powers.{inExponents};
 use crate::power::pow2;
 use crate::range::is_finite;
 use crate::whole::floor;
@@ -42,13 +43,20 @@ fn power_near(n: f64) -> f64
 }
 
 // For a value from -1022 up and below 1023.
-fn exp2_near(value: f64) -> f64
+pub(crate) fn exp2_near(value: f64) -> f64
     requires { ⌜ T (le (fin true 511 (pos 1)) value) ⌝ }
     requires { ⌜ T (lt value (fin false 1023 (pos 0))) ⌝ }
     ensures { λ r. ⌜ r ≡ exp2Of value ⌝ }
 {
     let n = floor_near(value);
     finite_or_zero(polynomial(value - n) * power_near(n))
+}
+
+// Whether `exp2_near` takes it.
+pub(crate) fn is_near(value: f64) -> bool
+    ensures { λ r. ⌜ r ≡ inExponents value ⌝ }
+{
+    (value >= -1022.0) & (value < 1023.0)
 }
 
 // For any value; `approx_exp2` uses it for the rest.

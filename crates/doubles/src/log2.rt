@@ -25,13 +25,20 @@ fn log2_of(mantissa: f64, exponent: f64) -> f64
 }
 
 // Of a normal value below 2 ^ 1023: the mantissa has value's digits and the exponent field of 1/2.
-fn log2_normal(value: f64) -> f64
+pub(crate) fn log2_normal(value: f64) -> f64
     requires { ⌜ T (inNormal value) ⌝ }
     ensures { λ r. ⌜ r ≡ log2Of value ⌝ }
 {
     let b: u64 = f64::to_bits(value);
     let mantissa = f64::from_bits((b & 0xf_ffff_ffff_ffff) | 0x3fe0_0000_0000_0000);
     log2_of(mantissa, ((b >> 52) as f64) - 1022.0)
+}
+
+// Whether `log2_normal` takes it.
+pub(crate) fn is_normal(value: f64) -> bool
+    ensures { λ r. ⌜ r ≡ inNormal value ⌝ }
+{
+    (value >= LEAST) & (value < MOST)
 }
 
 // Of any value, by a division: subnormals, and from 2 ^ 1023 up.

@@ -1,6 +1,7 @@
 pub mod Patching
 pub mod Tables
 pub mod SameColumns
+pub mod SampledSums
 pub mod ResponseOrder
 pub mod ResponseSamples
 pub mod ResponseRows

@@ -2,17 +2,19 @@
 ghost use mathlib.Core.Path.{_≡_};
 ghost use Prim.Native.Nat.{ℕ, _+_, _-_, _*_, _/_, _%_, _≤_, _<_};
 ghost use lib.Ieee.{nan};
-ghost use lib.ListN.{length, getD};
+ghost use lib.ListN.{length, getD, take};
+ghost use Rattle.doubles.specs.Arithmetic.{zero};
 ghost use Rattle.extent.specs.Kernel.{kernelOf};
 ghost use Rattle.field.specs.Knots.{Z, steps};
 ghost use Rattle.field.specs.Tables.{sampledOver, knotNumber, numberXY, row};
 ghost use Rattle.field.specs.Patched.{patched, within, either};
 ghost use Rattle.field.specs.Columns.{Firsts};
+ghost use Rattle.field.specs.Sums.{productsOf, sumFrom};
 use crate::columns::first_columns;
 use crate::knots::radius_knot;
 use crate::knots::step;
+use doubles::approx_powers;
 use extent::compact_quartic_kernel;
-use extent::shaped;
 use extent::shaping_exponent;
 
 // The kernel at each sample.
@@ -27,22 +29,49 @@ fn kernels(out: &mut [f64], samples: usize, center: f64, radius: f64, z: bool)
     }
 }
 
-// The number of channel k: over the samples in rising order, the shaped products of kernel and
-// response; a sample whose kernel is at most 0 adds nothing.
+// The products of kernel and response that are above 0, over the samples in rising order, and how
+// many; a sample whose kernel is at most 0 has none.
+fn products(y: &mut [f64], kernels: &[f64], responses: &[f64], samples: usize, k: usize) -> usize
+    requires { ⌜ (samples ≤ 20) × (samples ≤ length (now y)) × (samples ≤ length (now kernels)) × (k < 24) × (480 ≤ length (now responses)) ⌝ }
+    ensures { λ r. ⌜ (r ≤ samples) × (take r (now (y .exit)) ≡ productsOf (λ (s : ℕ). getD (now (kernels .entry)) s nan) (λ (s : ℕ). getD (now (responses .entry)) (s * 24 + k) nan) samples) ⌝ }
+{
+    let mut m = 0usize;
+    let mut s = 0usize;
+    while s < samples {
+        let kernel = kernels[s];
+        let product = kernel * responses[s * 24 + k];
+        if !(kernel <= 0.0) & (product > 0.0) {
+            y[m] = product;
+            m += 1;
+        }
+        s += 1;
+    }
+    m
+}
+
+// The first n added up.
+fn sum_of(y: &[f64], n: usize) -> f64
+    requires { ⌜ n ≤ length (now y) ⌝ }
+    ensures { λ r. ⌜ r ≡ sumFrom zero (take n (now (y .entry))) ⌝ }
+{
+    let mut sum = 0.0;
+    let mut i = 0usize;
+    while i < n {
+        sum = sum + y[i];
+        i += 1;
+    }
+    sum
+}
+
+// The number of channel k: the shaped products of kernel and response, added over the samples.
 fn sampled(kernels: &[f64], responses: &[f64], samples: usize, k: usize, exponent: f64) -> f64
     requires { ⌜ (samples ≤ 20) × (samples ≤ length (now kernels)) × (k < 24) × (480 ≤ length (now responses)) ⌝ }
     ensures { λ r. ⌜ r ≡ sampledOver (λ (s : ℕ). getD (now (kernels .entry)) s nan) (λ (s : ℕ). getD (now (responses .entry)) (s * 24 + k) nan) exponent samples ⌝ }
 {
-    let mut sum = 0.0;
-    let mut s = 0usize;
-    while s < samples {
-        let kernel = kernels[s];
-        if !(kernel <= 0.0) {
-            sum = sum + shaped(kernel * responses[s * 24 + k], exponent);
-        }
-        s += 1;
-    }
-    sum
+    let mut y = [0.0f64; 20];
+    let n = products(&mut y, kernels, responses, samples, k);
+    approx_powers(&mut y, n, exponent);
+    sum_of(&y, n)
 }
 
 // The numbers of all n channels, from `from` on. Channels with one column have one number, which is

@@ -1,4 +1,4 @@
--- `exp2Of` is finite, and its sign is clear: the fraction v - n has no sign, since n is no more than v, and all that is added and multiplied has none. Assumes nothing.
+-- `exp2Of` is finite, and its sign is clear, so that it is above 0 or 0: the fraction v - n has no sign, since n is no more than v, and all that is added and multiplied has none. Assumes nothing.
 use mathlib.Core.Path.{_≡_, refl, sym, ap, _∙_, subst}
 use Prim.Native.Nat.{ℕ, _+_, _-_, _*_, _/_, _^_, _≤_, _<_}
 use native.Mathlib.Nat.{le-trans, le-of-eq, lt-irrefl, lt-of-lt-of-le, mul-one, mul-right-comm, mul-le-mul-right, le-of-mul-le-mul-right, div-mul-le-self, lt-div-mul-add, zero-lt-suc}
@@ -7,8 +7,8 @@ use mathlib.Core.Bool.{Bool, true, false, not, _&&_, cond}
 use lib.IntN.{ℤ}
 use lib.Dec.{T, ltb, ltb→lt}
 use lib.Pow.{pow-pos}
-use lib.Ieee.{Float, nan, inf, fin, Format, binary64, low, up, down, round, sum, add, sub, neg, le, fits, toSigned}
-use lib.Ieee.Fits.{down-pos, round-fits, neg-fits}
+use lib.Ieee.{Float, nan, inf, fin, Format, binary64, low, up, down, round, sum, add, sub, neg, lt, le, fits, toSigned}
+use lib.Ieee.Fits.{down-pos, round-fits, neg-fits, mul-fits}
 use lib.Ieee.Exact.{HasValue}
 use lib.Ieee.Scale.{finite}
 use Rattle.doubles.specs.Arithmetic.{_⊕_, _⊖_, _⊗_, dec, zero, one}
@@ -19,6 +19,7 @@ use Rattle.doubles.proofs.Magnitude.{mag, mag-val, plain-val}
 use Rattle.doubles.proofs.Order.{mag-mono, round-ge, round-under-value}
 use Rattle.doubles.proofs.Signs.{clear, round-clear, cond-clear, add-clear, mul-clear}
 use Rattle.doubles.proofs.Interpolation.{round-neg}
+use Rattle.doubles.proofs.AddZero.{not-above}
 use Rattle.doubles.proofs.Fractions.{add-of, sum-plain}
 
 -- ---- finite
@@ -134,3 +135,22 @@ exp2-clear (fin s m e) h =
     let r = polynomialOf (v ⊖ n) ⊗ pow2Of binary64 (toSigned 31 n) in
     cond-clear (outside32 n) zero (finiteOrZero r) tt
     (cond-clear (finite r) r zero (mul-clear binary64 (polynomialOf (v ⊖ n)) (pow2Of binary64 (toSigned 31 n)) (polynomial-clear (v ⊖ n) (fraction-clear binary64 v h tt)) (power-clear (toSigned 31 n))) tt)
+
+-- ---- where it is not above 0, it is 0
+pub exp2-fits : (v : Float) → T (fits binary64 (exp2Of v))
+unfolding exp2Of exp2At
+exp2-fits v =
+    let n = floorOf binary64 v in
+    let r = polynomialOf (v ⊖ n) ⊗ pow2Of binary64 (toSigned 31 n) in
+    choice (finite v) (exp2At v n) zero
+    (choice (outside32 n) zero (finiteOrZero r) none (choice (finite r) r zero (mul-fits binary64 (polynomialOf (v ⊖ n)) (pow2Of binary64 (toSigned 31 n))) none)) none
+  where
+    none : T (fits binary64 zero)
+    none = unfold fits in tt
+
+    choice : (b : Bool) (x y : Float) → T (fits binary64 x) → T (fits binary64 y) → T (fits binary64 (cond b x y))
+    choice true x y h k = h
+    choice false x y h k = k
+
+pub exp2-zero : (v : Float) → T (fits binary64 v) → T (not (lt zero (exp2Of v))) → exp2Of v ≡ zero
+exp2-zero v h l = not-above binary64 (exp2Of v) (exp2-fits v) (exp2-finite v) (exp2-clear v h) l
