@@ -38,7 +38,7 @@ none-past zero ns bs e = none-left ns bs e
 none-past (suc i) [] bs e = refl
 none-past (suc i) (n ∷ ns) bs e = none-past i ns (drop n bs) (ap countSet (drop-drop (total (take i ns)) n bs) ∙ e)
 
-parts-sum : (ns : List ℕ) (bs : List Bool) → total (map countSet (chunks ns bs)) + countSet (drop (total ns) bs) ≡ countSet bs
+pub parts-sum : (ns : List ℕ) (bs : List Bool) → total (map countSet (chunks ns bs)) + countSet (drop (total ns) bs) ≡ countSet bs
 parts-sum [] bs = zero-add (countSet bs)
 parts-sum (n ∷ ns) bs =
     let h = parts-sum ns (drop n bs) in
