@@ -28,10 +28,10 @@ front a b c p q =
     ap (λ (n : ℕ). take n (a ++ (b ++ c))) e ∙ take-append-add a (b ++ c) 24 ∙ ap (λ (t : List ℕ). a ++ t) (take-at b c 24 q)
 
 module _ (l : Layout) (epoch : ℕ) (key : List ℕ) (places : List Float) (w : PackedAs l epoch key places) (ac : Accepted l) where
-  packed-sized : Sized l
+  pub packed-sized : Sized l
   packed-sized = record { channels = w .channels; layers = w .layers; rows = w .rows; anchors = w .anchors }
 
-  packed-reads : Reads l epoch key
+  pub packed-reads : Reads l epoch key
   packed-reads = rw (w .words) (key-reads l packed-sized epoch)
 
   -- the first 48 are the channels

@@ -58,7 +58,7 @@ fn is_22_2(key: &[u64], used: usize) -> bool
 }
 
 // s + c, or 24 where that is more.
-fn next_start(s: usize, c: usize) -> usize
+pub fn next_start(s: usize, c: usize) -> usize
     requires { ⌜ s ≤ 24 ⌝ }
     ensures { λ r. ⌜ r ≡ min (s + c) 24 ⌝ }
 {

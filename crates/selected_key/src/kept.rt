@@ -14,14 +14,7 @@ ghost use Rattle.layout.specs.Topology.{usedRows};
 ghost use Rattle.keys.specs.Keys.{keyWords, topologyParts, PackedAs};
 ghost use Rattle.selection.specs.Select.{picked, countSet, isPositive, keptLayout};
 ghost use Rattle.selected_key.specs.Kept.{countsOf, pickedParts};
-
-// s + c, or 24 where that is more.
-fn next_start(s: usize, c: usize) -> usize
-    requires { ⌜ s ≤ 24 ⌝ }
-    ensures { λ r. ⌜ r ≡ min (s + c) 24 ⌝ }
-{
-    if c <= 24 - s { s + c } else { 24 }
-}
+use crate::flags::next_start;
 
 fn clear(out: &mut [u64])
     requires { ⌜ length (now out) ≡ 156 ⌝ }

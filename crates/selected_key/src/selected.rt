@@ -1,0 +1,75 @@
+// The key of the layout that a region state selects, from the key of the layout and its coordinates.
+ghost use mathlib.Core.Path.{_≡_};
+ghost use mathlib.Core.Bool.{false};
+ghost use Prim.Native.Nat.{ℕ, _≤_};
+ghost use lib.ListN.{length};
+ghost use Rattle.layout.specs.declared.Layout.{Layout as LayoutValue};
+ghost use Rattle.layout.specs.Accepted.{Accepted};
+ghost use Rattle.keys.specs.Keys.{keyWords, PackedAs};
+ghost use Rattle.region.specs.Zones.{isDefault};
+ghost use Rattle.selection.specs.Selection.{selectedLayout, selectionRefusal};
+use crate::flags::bed_classed;
+use crate::flags::kept_flags;
+use crate::kept::pack_kept;
+use layout::covered;
+use layout::covered_layers;
+use region::RegionSemanticState;
+
+// Packs the key of the layout that a state other than the default selects; and how many layers are
+// left.
+fn pack_by_class(
+    key: &[u64],
+    places: &[f64],
+    used: usize,
+    depth: usize,
+    state: RegionSemanticState,
+    out: &mut [u64],
+) -> usize
+    requires { ⌜ (length (now key) ≡ 156) × (length (now places) ≡ 52) × (length (now out) ≡ 156) × (used ≤ 24) × (depth ≤ 4) ⌝ }
+    ensures { λ r. ⌜ ((l : LayoutValue) (e : ℕ) → PackedAs l e (now (key .entry)) (now (places .entry)) → Accepted l → used ≡ l .used → depth ≡ l .depth → isDefault state ≡ false → (now (out .exit) ≡ keyWords (selectedLayout state l) e) × (r ≡ selectedLayout state l .depth)) ⌝ }
+{
+    let mut flags = [false; 24];
+    let kept: &mut [bool] = &mut flags;
+    kept_flags(key, places, used, depth, state, kept);
+    pack_kept(key, kept, depth, out)
+}
+
+// The same, and 0, or refusal 9 or 10.
+fn select_by_class(
+    key: &[u64],
+    places: &[f64],
+    used: usize,
+    depth: usize,
+    state: RegionSemanticState,
+    out: &mut [u64],
+) -> u64
+    requires { ⌜ (length (now key) ≡ 156) × (length (now places) ≡ 52) × (length (now out) ≡ 156) × (used ≤ 24) × (depth ≤ 4) ⌝ }
+    ensures { λ r. ⌜ ((l : LayoutValue) (e : ℕ) → PackedAs l e (now (key .entry)) (now (places .entry)) → Accepted l → used ≡ l .used → depth ≡ l .depth → isDefault state ≡ false → (now (out .exit) ≡ keyWords (selectedLayout state l) e) × (r ≡ selectionRefusal state l)) ⌝ }
+{
+    if pack_by_class(key, places, used, depth, state, out) == 0 {
+        return 9;
+    }
+    if !bed_classed(key, places, used, depth, state) {
+        return 10;
+    }
+    0
+}
+
+// Packs the key of the layout that a state other than the default selects, from the key k of an accepted
+// layout and its coordinates p; 0, or refusal 9 or 10.
+pub fn pack_selected(
+    k: &[u64; 156],
+    p: &[f64; 52],
+    state: RegionSemanticState,
+    o: &mut [u64; 156],
+) -> u64
+    ensures { λ r. ⌜ ((l : LayoutValue) (e : ℕ) → PackedAs l e (now (k .entry)) (now (p .entry)) → Accepted l → isDefault state ≡ false → r ≡ selectionRefusal state l) ⌝ }
+    ensures key { λ r. ⌜ ((l : LayoutValue) (e : ℕ) → PackedAs l e (now (k .entry)) (now (p .entry)) → Accepted l → isDefault state ≡ false → r ≡ 0 → now (o .exit) ≡ keyWords (selectedLayout state l) e) ⌝ }
+{
+    let key: &[u64] = k;
+    let places: &[f64] = p;
+    let out: &mut [u64] = o;
+    let used = covered(key[152] as usize);
+    let depth = covered_layers(key[153] as usize);
+    select_by_class(key, places, used, depth, state, out)
+}
