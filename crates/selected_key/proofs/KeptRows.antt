@@ -69,11 +69,13 @@ module _ (l : Layout) (kept : List Bool) (s : Sized l) (flags : length kept ≡ 
   abbrev pub layersKept : List ℕ
   layersKept = countsOf (map layerCount (usedLayers l)) (map isPositive rowsKept)
 
-  used-flags : take (total (map layerCount (usedLayers l))) (map isPositive (anchorCounts kept l)) ≡ map isPositive rowsKept
-  used-flags =
+  used-rows : take (total (map layerCount (usedLayers l))) (anchorCounts kept l) ≡ rowsKept
+  used-rows =
       let n = total (map layerCount (usedLayers l)) in
-      sym (map-take isPositive n (anchorCounts kept l))
-      ∙ ap (map isPositive) (counts-take n (map rowCount (l .rows)) kept ∙ ap (λ (t : List ℕ). countsOf t kept) (sym (map-take rowCount n (l .rows))))
+      counts-take n (map rowCount (l .rows)) kept ∙ ap (λ (t : List ℕ). countsOf t kept) (sym (map-take rowCount n (l .rows)))
+
+  used-flags : take (total (map layerCount (usedLayers l))) (map isPositive (anchorCounts kept l)) ≡ map isPositive rowsKept
+  used-flags = sym (map-take isPositive (total (map layerCount (usedLayers l))) (anchorCounts kept l)) ∙ ap (map isPositive) used-rows
 
   same-sizes : countsOf (map layerCount (usedLayers l)) (map isPositive (anchorCounts kept l)) ≡ layersKept
   same-sizes =
@@ -99,9 +101,7 @@ module _ (l : Layout) (kept : List Bool) (s : Sized l) (flags : length kept ≡ 
       let rest = filter countedRow (drop n all) in
       let rs = keptRows l kept (s .rows) (s .anchors) flags (s .layers) in
       let pad = drop (length rs) (emptyLayout .rows) in
-      let f : take n all ≡ recountedRows (usedRows l) rowsKept =
-      recounted-take n (l .rows) (anchorCounts kept l)
-      ∙ ap (recountedRows (usedRows l)) (counts-take n (map rowCount (l .rows)) kept ∙ ap (λ (t : List ℕ). countsOf t kept) (sym (map-take rowCount n (l .rows)))) in
+      let f : take n all ≡ recountedRows (usedRows l) rowsKept = recounted-take n (l .rows) (anchorCounts kept l) ∙ ap (recountedRows (usedRows l)) used-rows in
       let e : rs ≡ front ++ rest = filter-split countedRow n all ∙ ap (λ t. filter countedRow t ++ rest) f in
       let fs = map isPositive rowsKept in
       let few : length fs ≤ n = omega (arith, length-map rowsKept isPositive, parts-long (map rowCount (usedRows l)) kept, length-map (usedRows l) rowCount, length-take n (l .rows)) in

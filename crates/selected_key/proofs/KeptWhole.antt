@@ -10,15 +10,14 @@ use lib.Seq.{slice, paste, take-append-add, take-at}
 use Rattle.lists.specs.Lists.{total, concat}
 use Rattle.layout.specs.declared.Layout.{Layout}
 use Rattle.layout.specs.Accepted.{Accepted}
-use Rattle.layout.specs.Build.{emptyLayout}
 use Rattle.layout.specs.Channels.{channelName}
 use Rattle.layout.specs.Topology.{usedRows}
 use Rattle.layout.proofs.Sizes.{Sized}
 use Rattle.keys.specs.Keys.{twoParts, topologyParts, flagNumber, keyWords, PackedAs}
 use Rattle.keys.proofs.KeyReads.{Reads, key-reads}
 use Rattle.keys.proofs.KeyWhole.{names, flags, layerCounts, rowCounts, anchorNames, zs, ys, xs, parts-long, eight-joined, channels-written, key-written}
-use Rattle.selection.specs.Select.{picked, isPositive, keptLayout, keptLayers}
-use Rattle.selection.proofs.KeptAccepted.{padded-length, keptRows, few-layers, few-rows, few-anchors}
+use Rattle.selection.specs.Select.{picked, isPositive, keptLayout}
+use Rattle.selection.proofs.KeptAccepted.{few-layers, kept-sized}
 use Rattle.selected_key.specs.Kept.{countsOf, pickedParts}
 use Rattle.selected_key.proofs.KeptKey.{rows-counted, layers-number, topology-picked}
 
@@ -54,16 +53,6 @@ module _ (l : Layout) (epoch : ℕ) (key : List ℕ) (places : List Float) (w : 
   packed-rows depth rows p q kept h = q ∙ ap (λ (d : ℕ). min (total (slice 48 (48 + d) key)) 24) p ∙ rows-counted l kept packed-sized ac h epoch key packed-reads
 
   module _ (kept : List Bool) (h : length kept ≡ 24) where
-    kept-sized : Sized (keptLayout kept l)
-    kept-sized =
-        let s = packed-sized in
-        record {
-          channels = s .channels;
-          layers = padded-length (emptyLayout .layers) (keptLayers kept l) 4 refl (few-layers l kept (s .rows) (s .anchors) h (s .layers));
-          rows = padded-length (emptyLayout .rows) (keptRows l kept (s .rows) (s .anchors) h (s .layers)) 24 refl (few-rows l kept (s .rows) (s .anchors) h (s .layers));
-          anchors = padded-length (emptyLayout .anchors) (picked kept (l .anchors)) 24 refl (few-anchors l kept (s .rows) (s .anchors) h (s .layers));
-        }
-
     -- the layers, rows and anchors as they are written, and how many layers these are
     module _ (depth rows : ℕ) (counts : List ℕ) (p : depth ≡ l .depth) (q : rows ≡ length (usedRows l)) (c : take rows counts ≡ countsOf (slice 52 (52 + rows) key) kept) where
       counted : take (length (usedRows l)) counts ≡ countsOf (slice 52 (52 + length (usedRows l)) key) kept
@@ -93,4 +82,4 @@ module _ (l : Layout) (epoch : ℕ) (key : List ℕ) (places : List Float) (w : 
         let s = packed-sized in
         let v = packed-reads in
         rw (q, p, channels-copied, v .used, v .number, r)
-        (key-written (keptLayout kept l) kept-sized (ac .fewChannels) (few-layers l kept (s .rows) (s .anchors) h (s .layers)) epoch (replicate 156 0) refl)
+        (key-written (keptLayout kept l) (kept-sized l kept (s .rows) (s .anchors) h (s .layers) (s .channels)) (ac .fewChannels) (few-layers l kept (s .rows) (s .anchors) h (s .layers)) epoch (replicate 156 0) refl)

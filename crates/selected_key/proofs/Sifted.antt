@@ -10,13 +10,10 @@ use lib.Seq.{paste, paste-zero, take-append-le, take-all, getD-at}
 use Rattle.keys.specs.Keys.{twoParts}
 use Rattle.keys.proofs.KeyParts.{Packed, packed-more}
 use Rattle.selection.specs.Select.{picked}
+use Rattle.selection.proofs.Picks.{none-picked}
 use Rattle.selected_key.specs.Kept.{pickedParts}
 
 -- ---- one entry more
-none-picked : {A : Type 0} (bs : List Bool) → picked {A = A} bs [] ≡ []
-none-picked [] = refl
-none-picked (b ∷ bs) = refl
-
 picked-keep : {A : Type 0} (bs : List Bool) (xs : List A) (i : ℕ) (d : A) → i < length bs → i < length xs → getD bs i false ≡ true → picked bs (take (suc i) xs) ≡ picked bs (take i xs) ++ (getD xs i d ∷ [])
 picked-keep [] xs i d h k e = absurd (omega arith)
 picked-keep (b ∷ bs) [] i d h k e = absurd (omega arith)

@@ -20,6 +20,7 @@ use Rattle.layout.specs.Questions.{firstNo, layoutQuestions, fromTo, ordered, o
 use Rattle.layout.specs.Accepted.{Accepted}
 use Rattle.layout.proofs.QuestionsAccepted.{all-yes, accepted}
 use Rattle.layout.proofs.QuestionsFirst.{first-none}
+use Rattle.layout.proofs.Sizes.{Sized}
 use Rattle.selection.specs.Select.{picked, countSet, isPositive, recountedRows, countedRow, countedLayer, padded, keptTopology, keptLayout, keptLayers, anchorCounts}
 use Rattle.selection.proofs.Flat.{kept-arrays, used-counts}
 use Rattle.selection.proofs.Sublists.{map-picked, all-picked, distinct-picked}
@@ -67,6 +68,15 @@ module _ (l : Layout) (kept : List Bool) (rows : length (l .rows) ≡ 24) (ancho
 
   pub few-anchors : length (picked kept (l .anchors)) ≤ 24
   few-anchors = omega (arith, picked-most kept (l .anchors))
+
+  pub kept-sized : length (l .channels) ≡ 24 → Sized (keptLayout kept l)
+  kept-sized channels =
+      record {
+        channels = channels;
+        layers = padded-length (emptyLayout .layers) (keptLayers kept l) 4 refl few-layers;
+        rows = padded-length (emptyLayout .rows) keptRows 24 refl few-rows;
+        anchors = padded-length (emptyLayout .anchors) (picked kept (l .anchors)) 24 refl few-anchors;
+      }
 
   -- ---- the flat lists
   pub kept-used-layers : usedLayers (keptLayout kept l) ≡ keptLayers kept l
@@ -135,8 +145,5 @@ module _ (l : Layout) (kept : List Bool) (rows : length (l .rows) ≡ 24) (ancho
 
     pub kept-accepted : length (l .channels) ≡ 24 → Accepted (keptLayout kept l)
     kept-accepted channels =
-        accepted (keptLayout kept l) channels
-        (padded-length (emptyLayout .layers) (keptLayers kept l) 4 refl few-layers)
-        (padded-length (emptyLayout .rows) keptRows 24 refl few-rows)
-        (padded-length (emptyLayout .anchors) (picked kept (l .anchors)) 24 refl few-anchors)
-        kept-yes
+        let k = kept-sized channels in
+        accepted (keptLayout kept l) (k .channels) (k .layers) (k .rows) (k .anchors) kept-yes

@@ -12,7 +12,7 @@ use Rattle.lists.specs.Lists.{filter, bit}
 use Rattle.selection.specs.Select.{picked, countSet}
 
 module _ {A : Type 0} where
-  none-picked : (bs : List Bool) → picked {A = A} bs [] ≡ []
+  pub none-picked : (bs : List Bool) → picked {A = A} bs [] ≡ []
   none-picked [] = refl
   none-picked (b ∷ bs) = refl
 

@@ -30,7 +30,7 @@ use Rattle.region.specs.Classes.{fiveX}
 use Rattle.selection.specs.Select.{picked, countSet, hasRows, recountedRows, recountedLayers, countedRow, countedLayer, padded, anchorCounts, rowCounts, keptLayout, keptLayers}
 use Rattle.selection.specs.Selection.{stays, passingFrom, classedLayer, selectedTopology, question9, question10, layerFlags, keptFlags, selectedLayout, selectionRefusal, selectionOf}
 use Rattle.selection.proofs.Flat.{kept-arrays}
-use Rattle.selection.proofs.KeptAccepted.{padded-length, keptRows, few-layers, few-rows, few-anchors, kept-used-layers, kept-yes}
+use Rattle.selection.proofs.KeptAccepted.{padded-length, kept-sized, kept-used-layers, kept-yes}
 use Rattle.selection.proofs.KeptCounts.{all-take}
 use Rattle.selection.proofs.Sublists.{filter-picked, all-picked}
 use Rattle.selection.proofs.Tested.{kept-tested, layers-flags}
@@ -124,13 +124,7 @@ module _ (l : Layout) (z : Sized l) (s : RegionSemanticState) where
     where
       go : (b : Bool) → Sized (cond b l (keptLayout (keptFlags s l) l))
       go true = z
-      go false =
-          record {
-            channels = z .channels;
-            layers = padded-length (emptyLayout .layers) (keptLayers (keptFlags s l) l) 4 refl (few-layers l (keptFlags s l) (z .rows) (z .anchors) flags-long (z .layers));
-            rows = padded-length (emptyLayout .rows) (keptRows l (keptFlags s l) (z .rows) (z .anchors) flags-long (z .layers)) 24 refl (few-rows l (keptFlags s l) (z .rows) (z .anchors) flags-long (z .layers));
-            anchors = padded-length (emptyLayout .anchors) (picked (keptFlags s l) (l .anchors)) 24 refl (few-anchors l (keptFlags s l) (z .rows) (z .anchors) flags-long (z .layers));
-          }
+      go false = kept-sized l (keptFlags s l) (z .rows) (z .anchors) flags-long (z .layers) (z .channels)
 
   -- how many layers are selected
   kept-depth : length (topologyOf (keptLayout (keptFlags s l) l)) ≡ keptLayout (keptFlags s l) l .depth
