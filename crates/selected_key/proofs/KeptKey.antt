@@ -118,7 +118,7 @@ module _ (l : Layout) (kept : List Bool) (s : Sized l) (ac : Accepted l) (flags 
     layers-number = ap length sizes-picked ∙ length-map (keptLayers kept l) layerCount
 
     layers-picked : (old : List ℕ) → pickedParts 48 100 (map isPositive sizes) sizes (slice 100 (100 + l .depth) key) old ≡
-        twoParts 48 (map layerCount (keptLayout kept l .layers)) 100 (map zPattern (keptLayout kept l .layers)) (keptLayout kept l .depth) old
+        twoParts 48 (map layerCount (keptLayout kept l .layers)) 100 (map zPattern (keptLayout kept l .layers)) (length (usedLayers (keptLayout kept l))) old
     layers-picked old =
         let cs = layersKept l kept s flags in
         let ls = keptLayout kept l .layers in
@@ -128,7 +128,6 @@ module _ (l : Layout) (kept : List Bool) (s : Sized l) (ac : Accepted l) (flags 
         (ap₂ (λ (t : List ℕ) (u : List ℕ). picked (map isPositive t) u) sizes-kept z-part
         ∙ sym (layers-zs (usedLayers l) cs)
         ∙ ap (map zPattern) (sym (kept-layers-are l kept s flags) ∙ sym e))
-        ∙ ap (λ (n : ℕ). twoParts 48 (map layerCount ls) 100 (map zPattern ls) n old) (ap length e)
 
     -- ---- all of them
     pub topology-picked : (n : ℕ) (old one two : List ℕ) → n ≡ min (total (slice 52 (52 + length (usedRows l)) key)) 24 →

@@ -1,23 +1,24 @@
 -- What is kept by the flags of a state is the selected layout, and how many layers it has answers question 9.
 use Prim.Native.Nat.{ℕ, _≤_, min}
-use mathlib.Core.Path.{_≡_, sym, ap, _∙_}
+use mathlib.Core.Path.{_≡_, sym, ap, ap₂, _∙_}
 use mathlib.Core.Bool.{Bool, true, false}
-use mathlib.Core.List.{List}
+use mathlib.Core.List.{List, _++_, append-nil}
 use native.Mathlib.Omega.{arith}
 use borrow.Author.Tests.{le-leb, lt-leb}
 use lib.Ieee.{Float}
-use lib.ListN.{getD}
+use lib.ListN.{length, drop, getD}
+use lib.Seq.{paste, take-all, drop-length}
 use Rattle.layout.specs.declared.Layout.{Layout}
 use Rattle.layout.specs.Accepted.{Accepted}
 use Rattle.layout.proofs.Sizes.{Sized}
-use Rattle.keys.specs.Keys.{PackedAs}
+use Rattle.keys.specs.Keys.{keyWords, PackedAs}
 use Rattle.region.specs.declared.RegionSemanticState.{RegionSemanticState}
 use Rattle.region.specs.Zones.{isDefault}
 use Rattle.selection.specs.declared.Selected.{Selected}
 use Rattle.selection.specs.Select.{keptLayout}
 use Rattle.selection.specs.Selection.{keptFlags, selectedLayout, question9, question10, selectionRefusal}
-use Rattle.selection.proofs.Selections.{selected-by-class, question9-depth, selection-accepts, selection-refuses-9, selection-refuses-10}
-use Rattle.selected_key.proofs.KeptWhole.{packed-reads}
+use Rattle.selection.proofs.Selections.{selected-default, default-ten, selected-by-class, question9-depth, selection-accepts, selection-refuses-9, selection-refuses-10}
+use Rattle.selected_key.proofs.KeptWhole.{packed-sized, packed-reads}
 
 -- what a key says of the counts
 module _ (l : Layout) (epoch : ℕ) (key : List ℕ) (places : List Float) (w : PackedAs l epoch key places) (ac : Accepted l) where
@@ -50,3 +51,19 @@ module _ (s : RegionSemanticState) (l : Layout) (z : Sized l) (h : l .depth ≤ 
 
     pub refused-none : question10 s l ≡ true → 0 ≡ selectionRefusal s l
     refused-none p = sym (ap refusalOf (selection-accepts s l h nine p))
+
+-- ---- the default state selects the layout itself
+module _ (s : RegionSemanticState) (l : Layout) (epoch : ℕ) (key : List ℕ) (places : List Float) (w : PackedAs l epoch key places) (ac : Accepted l) (is : isDefault s ≡ true) where
+  pub default-passes : 0 ≡ selectionRefusal s l
+  default-passes =
+      refused-none s l (packed-sized l epoch key places w ac) (ac .fewLayers) (l .depth) (ap (λ (x : Layout). x .depth) (sym (selected-default s l is)))
+      (λ z. let n = ac .someLayers in absurd (omega (arith, z, n)))
+      (default-ten s l is)
+
+  pub default-key : (old out : List ℕ) → length old ≡ 156 → out ≡ paste old 0 key 156 → out ≡ keyWords (selectedLayout s l) epoch
+  default-key old out h e =
+      e
+      ∙ ap₂ (λ (a b : List ℕ). a ++ b) (take-all 156 key (omega (arith, packed-reads l epoch key places w ac .long))) (ap (λ (n : ℕ). drop n old) (sym h) ∙ drop-length old)
+      ∙ append-nil key
+      ∙ w .words
+      ∙ ap (λ (x : Layout). keyWords x epoch) (sym (selected-default s l is))

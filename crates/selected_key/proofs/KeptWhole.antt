@@ -10,7 +10,7 @@ use lib.Seq.{slice, paste, take-append-add, take-at}
 use Rattle.lists.specs.Lists.{total, concat}
 use Rattle.layout.specs.declared.Layout.{Layout}
 use Rattle.layout.specs.Accepted.{Accepted}
-use Rattle.layout.specs.Channels.{channelName}
+use Rattle.layout.specs.Channels.{channelsOf, channelName}
 use Rattle.layout.specs.Topology.{usedRows}
 use Rattle.layout.proofs.Sizes.{Sized}
 use Rattle.keys.specs.Keys.{twoParts, topologyParts, flagNumber, keyWords, PackedAs}
@@ -34,7 +34,7 @@ module _ (l : Layout) (epoch : ℕ) (key : List ℕ) (places : List Float) (w : 
   packed-reads = rw (w .words) (key-reads l packed-sized epoch)
 
   -- the first 48 are the channels
-  channels-copied : paste (replicate 156 0) 0 key 48 ≡ twoParts 0 (map channelName (l .channels)) 24 (map flagNumber (l .channels)) (l .used) (replicate 156 0)
+  channels-copied : paste (replicate 156 0) 0 key 48 ≡ twoParts 0 (map channelName (l .channels)) 24 (map flagNumber (l .channels)) (length (channelsOf l)) (replicate 156 0)
   unfolding keyWords
   channels-copied =
       let s = packed-sized in
@@ -47,7 +47,7 @@ module _ (l : Layout) (epoch : ℕ) (key : List ℕ) (places : List Float) (w : 
       ap (λ (k : List ℕ). take 48 k ++ replicate 108 0) e
       ∙ ap (λ (k : List ℕ). k ++ replicate 108 0) (front (names l) (flags l) rest (v .names) (v .flags))
       ∙ append-assoc (names l) (flags l) (replicate 108 0)
-      ∙ sym (channels-written l s (ac .fewChannels) z y z z y z z y refl)
+      ∙ sym (channels-written l s z y z z y z z y refl)
 
   pub packed-rows : (depth rows : ℕ) → depth ≡ l .depth → rows ≡ min (total (slice 48 (48 + depth) key)) 24 → (kept : List Bool) → length kept ≡ 24 → rows ≡ length (usedRows l)
   packed-rows depth rows p q kept h = q ∙ ap (λ (d : ℕ). min (total (slice 48 (48 + d) key)) 24) p ∙ rows-counted l kept packed-sized ac h epoch key packed-reads
@@ -82,4 +82,4 @@ module _ (l : Layout) (epoch : ℕ) (key : List ℕ) (places : List Float) (w : 
         let s = packed-sized in
         let v = packed-reads in
         rw (q, p, channels-copied, v .used, v .number, r)
-        (key-written (keptLayout kept l) (kept-sized l kept (s .rows) (s .anchors) h (s .layers) (s .channels)) (ac .fewChannels) (few-layers l kept (s .rows) (s .anchors) h (s .layers)) epoch (replicate 156 0) refl)
+        (key-written (keptLayout kept l) (kept-sized l kept (s .rows) (s .anchors) h (s .layers) (s .channels)) epoch (replicate 156 0) refl)

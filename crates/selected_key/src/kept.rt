@@ -27,12 +27,13 @@ fn clear(out: &mut [u64])
     }
 }
 
-fn copy_channels(key: &[u64], out: &mut [u64])
-    requires { ⌜ (length (now key) ≡ 156) × (length (now out) ≡ 156) ⌝ }
-    ensures { λ _. ⌜ now (out .exit) ≡ paste (now (out .entry)) 0 (now (key .entry)) 48 ⌝ }
+// Copies the first n numbers of a key.
+pub fn copy_first(key: &[u64], n: usize, out: &mut [u64])
+    requires { ⌜ (length (now key) ≡ 156) × (length (now out) ≡ 156) × (n ≤ 156) ⌝ }
+    ensures { λ _. ⌜ now (out .exit) ≡ paste (now (out .entry)) 0 (now (key .entry)) n ⌝ }
 {
     let mut i = 0usize;
-    while i < 48 {
+    while i < n {
         out[i] = key[i];
         i += 1;
     }
@@ -44,7 +45,7 @@ fn pack_channels(key: &[u64], out: &mut [u64])
     ensures { λ _. ⌜ now (out .exit) ≡ paste (replicate 156 0) 0 (now (key .entry)) 48 ⌝ }
 {
     clear(out);
-    copy_channels(key, out);
+    copy_first(key, 48, out);
 }
 
 // How many rows the first n layers have.

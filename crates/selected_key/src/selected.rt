@@ -10,10 +10,12 @@ ghost use Rattle.region.specs.Zones.{isDefault};
 ghost use Rattle.selection.specs.Selection.{selectedLayout, selectionRefusal};
 use crate::flags::bed_classed;
 use crate::flags::kept_flags;
+use crate::kept::copy_first;
 use crate::kept::pack_kept;
 use layout::covered;
 use layout::covered_layers;
 use region::RegionSemanticState;
+use region::is_default;
 
 // Packs the key of the layout that a state other than the default selects; and how many layers are
 // left.
@@ -55,20 +57,24 @@ fn select_by_class(
     0
 }
 
-// Packs the key of the layout that a state other than the default selects, from the key k of an accepted
-// layout and its coordinates p; 0, or refusal 9 or 10.
+// Packs the key of the layout that a state selects, from the key k of an accepted layout and its
+// coordinates p; 0, or refusal 9 or 10.
 pub fn pack_selected(
     k: &[u64; 156],
     p: &[f64; 52],
     state: RegionSemanticState,
     o: &mut [u64; 156],
 ) -> u64
-    ensures { λ r. ⌜ ((l : LayoutValue) (e : ℕ) → PackedAs l e (now (k .entry)) (now (p .entry)) → Accepted l → isDefault state ≡ false → r ≡ selectionRefusal state l) ⌝ }
-    ensures key { λ r. ⌜ ((l : LayoutValue) (e : ℕ) → PackedAs l e (now (k .entry)) (now (p .entry)) → Accepted l → isDefault state ≡ false → r ≡ 0 → now (o .exit) ≡ keyWords (selectedLayout state l) e) ⌝ }
+    ensures { λ r. ⌜ ((l : LayoutValue) (e : ℕ) → PackedAs l e (now (k .entry)) (now (p .entry)) → Accepted l → r ≡ selectionRefusal state l) ⌝ }
+    ensures key { λ r. ⌜ ((l : LayoutValue) (e : ℕ) → PackedAs l e (now (k .entry)) (now (p .entry)) → Accepted l → r ≡ 0 → now (o .exit) ≡ keyWords (selectedLayout state l) e) ⌝ }
 {
     let key: &[u64] = k;
     let places: &[f64] = p;
     let out: &mut [u64] = o;
+    if is_default(state) {
+        copy_first(key, 156, out);
+        return 0;
+    }
     let used = covered(key[152] as usize);
     let depth = covered_layers(key[153] as usize);
     select_by_class(key, places, used, depth, state, out)

@@ -147,6 +147,12 @@ module _ (l : Layout) (z : Sized l) (s : RegionSemanticState) where
       let m : n ≡ selectionRefusal s l = en ∙ rw (q, et, le-ltb 4 (l .depth) h) in
       er ∙ rw (m, es)
 
+  -- without a refusal the layout that is answered has the selected topology
+  pub selection-topology : (r : Selected) → r ≡ selectionOf s l → r .refusal ≡ 0 → topologyOf (r .chosen) ≡ selectedTopology s l
+  selection-topology r e n =
+      let m : selectionRefusal s l ≡ 0 = sym (ap (λ (x : Selected). x .refusal) e) ∙ n in
+      ap (λ (x : Selected). topologyOf (x .chosen)) e ∙ ap (λ (b : Bool). topologyOf (cond b (selectedLayout s l) l)) (eq-eqb (selectionRefusal s l) 0 m) ∙ selected-topology
+
   -- ---- a layout with six answers "yes" selects one with them
   module _ (e : firstNo (layoutQuestions l) ≡ 0) (nine : question9 s l ≡ true) where
     pub selected-yes : firstNo (layoutQuestions (selectedLayout s l)) ≡ 0

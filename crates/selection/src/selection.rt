@@ -10,9 +10,10 @@ ghost use lib.Seq.{slice};
 ghost use Rattle.doubles.specs.Arithmetic.{zero};
 ghost use Rattle.lists.specs.Lists.{all};
 ghost use Rattle.layout.specs.Questions.{firstNo};
+ghost use Rattle.layout.specs.Topology.{topologyOf};
 ghost use Rattle.region.specs.Zones.{isDefault};
 ghost use Rattle.region.specs.Classes.{bedOf};
-ghost use Rattle.selection.specs.Selection.{isKept, ruleOf, passes, keptFlags, selectionOf};
+ghost use Rattle.selection.specs.Selection.{isKept, ruleOf, passes, keptFlags, selectedTopology, selectionOf};
 use crate::Selected;
 use crate::ground::bed_classed;
 use crate::select::select_kept;
@@ -178,8 +179,10 @@ fn select_by_class(l: Layout, state: RegionSemanticState) -> Selected
 }
 
 // The layout that a state selects, or refusal 9 or 10; 2 where there are more than four layers.
+// Without a refusal its topology is the one that document 01 says.
 pub fn derive_selected_layout(l: Layout, state: RegionSemanticState) -> Selected
     ensures { λ r. ⌜ r ≡ selectionOf state l ⌝ }
+    ensures topology { λ r. ⌜ (r .refusal ≡ 0 → topologyOf (r .chosen) ≡ selectedTopology state l) ⌝ }
 {
     if 4 < l.depth {
         return Selected {

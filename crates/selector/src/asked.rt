@@ -4,8 +4,7 @@ ghost use Prim.Native.Nat.{ℕ};
 ghost use Rattle.layout.specs.declared.Layout.{Layout as LayoutValue};
 ghost use Rattle.layout.specs.Accepted.{Accepted};
 ghost use Rattle.extent.specs.Extent.{meanOf, meanRadius};
-ghost use Rattle.keys.specs.Keys.{PackedAs, keyWords};
-ghost use Rattle.selection.specs.Selection.{selectionRefusal, selectedLayout};
+ghost use Rattle.keys.specs.Keys.{PackedAs};
 ghost use Rattle.selector.specs.Steps.{refusedPlan, zoneQuestions, objectQuestions, ChosenBy};
 use crate::Plan;
 use extent::Extent;
@@ -24,19 +23,6 @@ fn refused(q: u64) -> Plan
     }
 }
 
-// STUB
-fn pack_selected(
-    key: &[u64; 156],
-    places: &[f64; 52],
-    state: RegionSemanticState,
-    out: &mut [u64; 156],
-) -> u64
-    ensures { λ r. ⌜ ((l : LayoutValue) (e : ℕ) → PackedAs l e (now (key .entry)) (now (places .entry)) → Accepted l → r ≡ selectionRefusal state l) ⌝ }
-    ensures key { λ r. ⌜ ((l : LayoutValue) (e : ℕ) → PackedAs l e (now (key .entry)) (now (places .entry)) → Accepted l → r ≡ 0 → now (out .exit) ≡ keyWords (selectedLayout state l) e) ⌝ }
-{
-    0
-}
-
 // Questions 8 to 10.
 fn selected(
     flags: [bool; 6],
@@ -52,7 +38,7 @@ fn selected(
     match zones {
         Zones::Refused(q) => refused(q),
         Zones::State(state) => {
-            let q = pack_selected(key, places, state, out);
+            let q = selected_key::pack_selected(key, places, state, out);
             Plan {
                 refusal: q,
                 state: state,

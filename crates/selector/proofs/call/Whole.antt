@@ -17,7 +17,9 @@ use Rattle.layout.proofs.QuestionsCounted.{both}
 use Rattle.layout.proofs.Sizes.{Sized}
 use Rattle.extent.specs.declared.Extent.{Extent}
 use Rattle.extent.specs.Extent.{question7, meanOf, meanRadius}
+use Rattle.field.specs.Place.{filled}
 use Rattle.gains.specs.declared.Centre.{Centre}
+use Rattle.gains.specs.Gains.{projected}
 use Rattle.region.specs.declared.RegionSemanticState.{RegionSemanticState}
 use Rattle.region.specs.Zones.{zonesOf, question8}
 use Rattle.selection.specs.Selection.{question9, question10, selectedLayout, selectionRefusal}
@@ -87,6 +89,15 @@ module _ (l : Layout) (s : Sized l) (t : RegionSemanticState) (epoch : ℕ) (key
       ap activeIn k
       ∙ active-in (selectedLayout t l) (selected-sized l s t) epoch
       ∙ ap₂ (λ (n : ℕ) (cs : List Channel). length (map channelName (filter active (take n cs)))) (selected-used t l) (selected-channels t l)
+
+-- ---- a field built for the state of the flags
+module _ (l : Layout) (t u : RegionSemanticState) (e : t ≡ u) (place : ℕ) (store : List Float) where
+  pub stores-same : (store' : List Float) → store' ≡ filled (selectedLayout t l) place store → store' ≡ filled (selectedLayout u l) place store
+  stores-same store' h = h ∙ ap (λ (x : RegionSemanticState). filled (selectedLayout x l) place store) e
+
+  pub gains-same : (n k mean : ℕ) (radius : Float) (c : Centre) (points old gains' : List Float) → n ≡ k → gains' ≡ projected (filled (selectedLayout t l) place store) place n (ltb 1 (selectedLayout t l .depth)) mean radius c points old → gains' ≡ projected (filled (selectedLayout u l) place store) place k (ltb 1 (selectedLayout u l .depth)) mean radius c points old
+  gains-same n k mean radius c points old gains' f h =
+      h ∙ ap₂ (λ (x : RegionSemanticState) (i : ℕ). projected (filled (selectedLayout x l) place store) place i (ltb 1 (selectedLayout x l .depth)) mean radius c points old) e f
 
 -- ---- the key and the coordinates as they are packed
 pub packed-here : (l : Layout) → Sized l → (epoch : ℕ) (old : List Float) (key : List ℕ) (places : List Float) → length old ≡ 52 → key ≡ keyWords l epoch → places ≡ placesOver l old → PackedAs l epoch key places

@@ -12,7 +12,7 @@ returns c =
     let b = c .before .before in
     let a = b .before .before .before .before in
     let s = a .before .before .before .before in
-    b .copy-channels .ensures ∙ ap (λ (t : List ℕ). paste t 0 (s .args .key .now) 48) (a .clear .ensures)
+    b .copy-first .ensures ∙ ap (λ (t : List ℕ). paste t 0 (s .args .key .now) 48) (a .clear .ensures)
 
 pub pack-channels-spec : {M : Type 1} → statement M
 pack-channels-spec = tie.close (tie.spec (λ c κs. search needs) (λ c κs. search needs) (λ c. search needs) returns)

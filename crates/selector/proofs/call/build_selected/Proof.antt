@@ -17,7 +17,7 @@ use Rattle.selector.proofs.call.build_selected.Tie as tie
 chosen-is : (c : tie.After-derive-selected-layout) → c .derive-selected-layout .result .chosen ≡ selectedLayout (c .before .before .before .before .before .before .args .state) (c .before .before .before .before .before .before .args .l)
 chosen-is c =
     let s = c .before .before .before .before .before .before in
-    ap (λ (x : Selected). x .chosen) (c .derive-selected-layout .ensures) ∙ ap (λ (b : Bool). cond b (selectedLayout (s .args .state) (s .args .l)) (s .args .l)) (eq-eqb (selectionRefusal (s .args .state) (s .args .l)) 0 (s .pre .6))
+    ap (λ (x : Selected). x .chosen) (c .derive-selected-layout .ensures .0) ∙ ap (λ (b : Bool). cond b (selectedLayout (s .args .state) (s .args .l)) (s .args .l)) (eq-eqb (selectionRefusal (s .args .state) (s .args .l)) 0 (s .pre .6))
 
 build-requires : tie.Need-build-requires
 build-requires c κs =
