@@ -5,16 +5,24 @@ use mathlib.Core.Bool.{Bool, true, false, _&&_, true≢false}
 use mathlib.Core.List.{List, [], _∷_}
 use native.Mathlib.Nat.{add-zero, add-assoc}
 use native.Mathlib.Omega.{arith}
-use borrow.Author.Tests.{eq-eqb, ne-eqb, eqb-true}
+use borrow.Author.Tests.{eq-eqb, ne-eqb, eqb-true, eqb-false}
+use lib.Bits.{bitOr, bitXor, xor-add-and, xor-self, or-add-and, and-le-l, and-le-r}
 use lib.Dec.{eqb}
 use lib.ListN.{length, take, drop, getD}
 use lib.Seq.{slice, take-all, getD-drop, getD-take}
 use Rattle.lists.specs.Lists.{allSame}
 use Rattle.lists.proofs.Loops.{slice-more, slice-done}
-use Rattle.lists.proofs.Same.{same-next, same-not}
 use Rattle.keys.specs.Keys.{keyAt, findFrom, upTo}
 
 -- ---- equal word by word is equal
+and-assoc : (a b c : Bool) → ((a && b) && c) ≡ (a && (b && c))
+and-assoc true b c = refl
+and-assoc false b c = refl
+
+and-true : (a : Bool) → (a && true) ≡ a
+and-true true = refl
+and-true false = refl
+
 and-both : (a b : Bool) → (a && b) ≡ true → (a ≡ true) × (b ≡ true)
 and-both true b e = (refl, e)
 and-both false b e = absurd (true≢false (sym e))
@@ -38,29 +46,49 @@ not-same xs ys n = go (allSame eqb xs ys) refl
     go true e = absurd (n (same-equal xs ys e))
     go false e = e
 
+-- ---- bits that differ
+xor-none : (a b : ℕ) → bitXor a b ≡ 0 → a ≡ b
+xor-none a b e = omega (arith, xor-add-and a b, and-le-l a b, and-le-r a b, e)
+
+or-none : (a b : ℕ) → bitOr a b ≡ 0 → (a ≡ 0) × (b ≡ 0)
+or-none a b e = (omega (arith, or-add-and a b, and-le-l a b, and-le-r a b, e), omega (arith, or-add-and a b, and-le-l a b, and-le-r a b, e))
+
+gathered : (d x y : ℕ) → eqb (bitOr d (bitXor x y)) 0 ≡ (eqb d 0 && eqb x y)
+gathered d x y = go (eqb d 0) (eqb x y) refl refl
+  where
+    go : (a b : Bool) → eqb d 0 ≡ a → eqb x y ≡ b → eqb (bitOr d (bitXor x y)) 0 ≡ (a && b)
+    go true true e f = eq-eqb _ 0 (ap₂ bitOr (eqb-true d 0 e) (ap (bitXor x) (sym (eqb-true x y f)) ∙ xor-self x))
+    go true false e f = ne-eqb _ 0 (λ z. eqb-false x y f (xor-none x y (or-none d (bitXor x y) z .1)))
+    go false b e f = ne-eqb _ 0 (λ z. eqb-false d 0 e (or-none d (bitXor x y) z .0))
+
 -- ---- a loop that compares the key with the words from a place on
-pub record Compared (words : List ℕ) (from : ℕ) (key : List ℕ) (i : ℕ) : Type 0 where
+pub record Compared (words : List ℕ) (from : ℕ) (key : List ℕ) (differ i : ℕ) : Type 0 where
   pub reached : i ≤ 156
   pub room : from + 156 ≤ length words
   pub long : length key ≡ 156
-  pub same : allSame eqb (slice (from + i) (from + 156) words) (slice i 156 key) ≡ allSame eqb (slice from (from + 156) words) key
+  pub same : (eqb differ 0 && allSame eqb (slice (from + i) (from + 156) words) (slice i 156 key)) ≡ allSame eqb (slice from (from + 156) words) key
 
 module _ (words : List ℕ) (from : ℕ) (key : List ℕ) where
-  pub compared-none : from + 156 ≤ length words → length key ≡ 156 → Compared words from key 0
+  pub compared-none : from + 156 ≤ length words → length key ≡ 156 → Compared words from key 0 0
   compared-none r l = record { reached = omega arith; room = r; long = l; same = rw (add-zero from, take-all 156 key (omega arith)) }
 
-  module _ (i : ℕ) (w : Compared words from key i) where
-    pub compared-differ : i < 156 → (getD words (from + i) 0 ≡ getD key i 0 → ⊥) → false ≡ allSame eqb (slice from (from + 156) words) key
-    compared-differ h q =
-        sym (same-not eqb _ _ _ _ _ _ (slice-more (from + i) (from + 156) words 0 (omega arith) (w .room)) (slice-more i 156 key 0 h (omega arith)) (ne-eqb _ _ q)) ∙ w .same
+  module _ (d i : ℕ) (w : Compared words from key d i) where
+    pub compared-more : i < 156 → Compared words from key (bitOr d (bitXor (getD words (from + i) 0) (getD key i 0))) (i + 1)
+    compared-more h =
+        let x = getD words (from + i) 0 in
+        let y = getD key i 0 in
+        let r = allSame eqb (slice (from + i + 1) (from + 156) words) (slice (i + 1) 156 key) in
+        let o = ap₂ (allSame eqb) (slice-more (from + i) (from + 156) words 0 (omega arith) (w .room)) (slice-more i 156 key 0 h (omega arith)) in
+        record {
+          reached = omega arith;
+          room = w .room;
+          long = w .long;
+          same = rw (← add-assoc from i 1) (ap (λ (b : Bool). b && r) (gathered d x y) ∙ and-assoc (eqb d 0) (eqb x y) r ∙ ap (λ (b : Bool). eqb d 0 && b) (sym o) ∙ w .same);
+        }
 
-    pub compared-agree : i < 156 → getD words (from + i) 0 ≡ getD key i 0 → Compared words from key (i + 1)
-    compared-agree h q =
-        let s = same-next eqb _ _ _ _ _ _ (slice-more (from + i) (from + 156) words 0 (omega arith) (w .room)) (slice-more i 156 key 0 h (omega arith)) (eq-eqb _ _ q) in
-        record { reached = omega arith; room = w .room; long = w .long; same = rw (← add-assoc from i 1) (sym s ∙ w .same) }
-
-    pub compared-done : 156 ≤ i → true ≡ allSame eqb (slice from (from + 156) words) key
-    compared-done h = sym (ap₂ (allSame eqb) (slice-done (from + i) (from + 156) words (omega arith)) (slice-done i 156 key (omega arith))) ∙ w .same
+    pub compared-done : 156 ≤ i → eqb d 0 ≡ allSame eqb (slice from (from + 156) words) key
+    compared-done h =
+        sym (and-true (eqb d 0)) ∙ sym (ap (λ (b : Bool). eqb d 0 && b) (ap₂ (allSame eqb) (slice-done (from + i) (from + 156) words (omega arith)) (slice-done i 156 key (omega arith)))) ∙ w .same
 
   -- one word that differs
   pub word-differs : (i : ℕ) → i < 156 → (getD words (from + i) 0 ≡ getD key i 0 → ⊥) → false ≡ allSame eqb (slice from (from + 156) words) key

@@ -7,19 +7,19 @@ ghost use lib.Seq.{slice};
 ghost use Rattle.lists.specs.Lists.{allSame};
 ghost use Rattle.keys.specs.Keys.{keyAt, withKey, findFrom, upTo};
 
-// Whether the key at a place of the words is this one.
+// Whether the key at a place of the words is this one. All bits that differ are gathered, in a loop
+// without a branch.
 fn is_key(words: &[u64], from: usize, key: &[u64]) -> bool
     requires { ⌜ (from + 156 ≤ length (now words)) × (length (now key) ≡ 156) ⌝ }
     ensures { λ r. ⌜ r ≡ allSame eqb (slice from (from + 156) (now (words .entry))) (now (key .entry)) ⌝ }
 {
+    let mut differ = 0u64;
     let mut i = 0usize;
     while i < 156 {
-        if words[from + i] != key[i] {
-            return false;
-        }
+        differ = differ | (words[from + i] ^ key[i]);
         i += 1;
     }
-    true
+    differ == 0
 }
 
 // The same, where most keys differ in the epoch.
