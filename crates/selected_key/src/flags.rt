@@ -16,6 +16,7 @@ ghost use Rattle.layout.specs.Accepted.{Accepted};
 ghost use Rattle.keys.specs.Keys.{PackedAs};
 ghost use Rattle.region.specs.Classes.{bedOf, outsideFive, isFLc};
 ghost use Rattle.selection.specs.Selection.{isClassed, passes, keptFlags, question10};
+use layout::next_start;
 use region::RegionHorizontalState;
 use region::RegionSemanticState;
 use region::is_flc;
@@ -55,14 +56,6 @@ fn is_22_2(key: &[u64], used: usize) -> bool
         i += 1;
     }
     false
-}
-
-// s + c, or 24 where that is more.
-pub fn next_start(s: usize, c: usize) -> usize
-    requires { ⌜ s ≤ 24 ⌝ }
-    ensures { λ r. ⌜ r ≡ min (s + c) 24 ⌝ }
-{
-    if c <= 24 - s { s + c } else { 24 }
 }
 
 // Where the anchors of the rows from row up to end, which begin at at, end.

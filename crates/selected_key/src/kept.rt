@@ -14,7 +14,7 @@ ghost use Rattle.layout.specs.Topology.{usedRows};
 ghost use Rattle.keys.specs.Keys.{keyWords, topologyParts, PackedAs};
 ghost use Rattle.selection.specs.Select.{picked, countSet, isPositive, keptLayout};
 ghost use Rattle.selected_key.specs.Kept.{countsOf, pickedParts};
-use crate::flags::next_start;
+use layout::next_start;
 
 fn clear(out: &mut [u64])
     requires { ⌜ length (now out) ≡ 156 ⌝ }

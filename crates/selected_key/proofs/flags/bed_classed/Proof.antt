@@ -94,7 +94,7 @@ bed-classed-spec =
     (λ c. search needs)
     (λ c. search needs)
     (λ c. search needs)
-    (λ c κs. c .before .before .loop .inv .3)
+    (λ c κs. search needs)
     (λ c κs. let w = c .before .before .before .loop .inv in (w .0, omega (arith, c .next-start .ensures), w .4))
     (λ c. search needs)
     (λ c. search needs)
