@@ -57,13 +57,10 @@ pub mod extent {
                     z,
                     rows: vec![crate::SpatialLayoutRow {
                         y: 0.0,
-                        anchors: vec![crate::SpatialLayoutAnchor { identity: name.to_owned(), x: 0.0 }],
+                        anchors: vec![crate::SpatialLayoutAnchor::at(name.to_owned(), 0.0)],
                     }],
                 };
-                let small = crate::SpatialLayout {
-                    channels: vec![channel("a"), channel("b")],
-                    topology: crate::SpatialLayoutTopology { layers: vec![layer("a", 0.0), layer("b", 1.0)], aliases: Vec::new() },
-                };
+                let small = crate::SpatialLayout::of(vec![channel("a"), channel("b")], vec![layer("a", 0.0), layer("b", 1.0)]);
                 let mut field = super::ExtentFieldCache::build(&small).unwrap();
                 let part = |from: usize, count: usize| place[from * n..(from + count) * n].to_vec();
                 let put = |table: &mut super::AxisResponseTable, from: usize, count: usize, ends: usize| {

@@ -1,7 +1,6 @@
 //! Rooms: the real ones, and random ones of any size.
 use crate::{
     random::Random, SpatialLayout, SpatialLayoutAnchor, SpatialLayoutChannel, SpatialLayoutLayer, SpatialLayoutRow,
-    SpatialLayoutTopology,
 };
 
 /// Names in list order, `lfe` and `off` after a colon; then layers, rows and anchors.
@@ -23,12 +22,12 @@ fn room((names, layers): Plan) -> SpatialLayout {
                 .iter()
                 .map(|(y, anchors)| SpatialLayoutRow {
                     y: *y,
-                    anchors: anchors.iter().map(|(name, x)| SpatialLayoutAnchor { identity: (*name).to_owned(), x: *x }).collect(),
+                    anchors: anchors.iter().map(|(name, x)| SpatialLayoutAnchor::at((*name).to_owned(), *x)).collect(),
                 })
                 .collect(),
         })
         .collect();
-    SpatialLayout { channels, topology: SpatialLayoutTopology { layers, aliases: Vec::new() } }
+    SpatialLayout::of(channels, layers)
 }
 
 type Rows<'a> = &'a [(f64, &'a [(&'a str, f64)])];
@@ -172,9 +171,9 @@ pub fn random(random: &mut Random, most: u64) -> SpatialLayout {
         let ys = ascending(random, rows);
         for (y, count) in ys.into_iter().zip(counts) {
             let xs = ascending(random, count);
-            let anchors = xs.into_iter().map(|x| SpatialLayoutAnchor { identity: free.pop().unwrap(), x }).collect();
+            let anchors = xs.into_iter().map(|x| SpatialLayoutAnchor::at(free.pop().unwrap(), x)).collect();
             layer.rows.push(SpatialLayoutRow { y, anchors });
         }
     }
-    SpatialLayout { channels, topology: SpatialLayoutTopology { layers, aliases: Vec::new() } }
+    SpatialLayout::of(channels, layers)
 }

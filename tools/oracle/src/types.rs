@@ -1,24 +1,60 @@
-//! The types of joc_spatial_bridge.rs, as far as extent.rs and region.rs read them. A layout is what
-//! questions 1 to 6 of document 01 accept, and the point gains are lent by the caller: they stand in
-//! the descriptor.
+//! The types of joc_spatial_bridge.rs that extent.rs and region.rs use, with the fields that the
+//! original's have, since a call clones and compares them. A layout is what questions 1 to 6 of
+//! document 01 accept, without routes and aliases; the point gains are lent by the caller and stand in
+//! the descriptor, where a clone shares them.
+use std::rc::Rc;
 
-#[derive(Clone, Debug, PartialEq)]
+#[derive(Clone, Debug, Eq, PartialEq)]
 pub enum SpatialSourceClass {
     DynamicPoint,
     DynamicRegion,
+    Unsupported(String),
+}
+
+#[derive(Clone, Debug, PartialEq)]
+pub struct SpatialSpreadProfile {
+    pub samples: Vec<f64>,
+}
+
+#[derive(Clone, Debug, PartialEq)]
+pub struct SpatialPairedGeometry {
+    pub first: Vec<f64>,
+    pub second: Vec<f64>,
+    pub blend: f64,
 }
 
 #[derive(Clone, Debug, PartialEq)]
 pub struct SpatialDescriptor {
     pub source_class: SpatialSourceClass,
+    pub identity: String,
     pub coordinates: Vec<f64>,
-    pub spread: Option<()>,
-    pub paired: Option<()>,
+    pub spread: Option<SpatialSpreadProfile>,
+    pub paired: Option<SpatialPairedGeometry>,
     pub pair_span_q15: Option<u16>,
+    pub raw3: Option<Vec<u8>>,
     pub extent: Option<[f64; 3]>,
     pub zones: Option<[bool; 6]>,
     pub channel_lock: bool,
-    pub point_gains: Vec<f64>,
+    pub point_gains: Rc<Vec<f64>>,
+}
+
+impl SpatialDescriptor {
+    /// A wide object.
+    pub fn wide(centre: [f64; 3], extent: [f64; 3], zones: Option<[bool; 6]>, points: &[f64]) -> Self {
+        Self {
+            source_class: SpatialSourceClass::DynamicPoint,
+            identity: "object".to_owned(),
+            coordinates: centre.to_vec(),
+            spread: None,
+            paired: None,
+            pair_span_q15: None,
+            raw3: None,
+            extent: Some(extent),
+            zones,
+            channel_lock: false,
+            point_gains: Rc::new(points.to_vec()),
+        }
+    }
 }
 
 #[derive(Clone, Debug, Eq, PartialEq)]
@@ -32,6 +68,15 @@ pub struct SpatialLayoutChannel {
 pub struct SpatialLayoutAnchor {
     pub identity: String,
     pub x: f64,
+    pub y: f64,
+    pub z: f64,
+}
+
+impl SpatialLayoutAnchor {
+    /// An anchor at x; `SpatialLayout::of` gives it its row's y and its layer's z.
+    pub fn at(identity: String, x: f64) -> Self {
+        Self { identity, x, y: 0.0, z: 0.0 }
+    }
 }
 
 #[derive(Clone, Debug, PartialEq)]
@@ -46,10 +91,25 @@ pub struct SpatialLayoutLayer {
     pub rows: Vec<SpatialLayoutRow>,
 }
 
+#[derive(Clone, Debug, PartialEq)]
+pub struct SpatialLayoutAlias {
+    pub identity: String,
+    pub target_identity: String,
+    pub x: f64,
+    pub y: f64,
+    pub z: f64,
+}
+
 #[derive(Clone, Debug, Default, PartialEq)]
 pub struct SpatialLayoutTopology {
     pub layers: Vec<SpatialLayoutLayer>,
-    pub aliases: Vec<()>,
+    pub aliases: Vec<SpatialLayoutAlias>,
+}
+
+#[derive(Clone, Debug, PartialEq)]
+pub struct SpatialRouteVector {
+    pub identity: String,
+    pub vector: Vec<f64>,
 }
 
 #[derive(Clone, Debug, PartialEq)]
@@ -77,10 +137,37 @@ pub enum SpatialProjectionError {
 #[derive(Clone, Debug, PartialEq)]
 pub struct SpatialLayout {
     pub channels: Vec<SpatialLayoutChannel>,
+    pub active_indices: Vec<usize>,
     pub topology: SpatialLayoutTopology,
+    pub coordinate_dimension: usize,
+    pub route_vectors: Vec<SpatialRouteVector>,
+    pub named_fallback_parameters: [i16; 24],
+    pub allow_legacy_duplicate_anchors: bool,
+    pub use_actual_two_layer_heights: bool,
 }
 
 impl SpatialLayout {
+    /// A layout of three dimensions without routes and aliases.
+    pub fn of(channels: Vec<SpatialLayoutChannel>, mut layers: Vec<SpatialLayoutLayer>) -> Self {
+        for layer in &mut layers {
+            for row in &mut layer.rows {
+                for anchor in &mut row.anchors {
+                    (anchor.y, anchor.z) = (row.y, layer.z);
+                }
+            }
+        }
+        let active = |(i, c): (usize, &SpatialLayoutChannel)| (c.enabled && !c.lfe).then_some(i);
+        Self {
+            active_indices: channels.iter().enumerate().filter_map(active).collect(),
+            channels,
+            topology: SpatialLayoutTopology { layers, aliases: Vec::new() },
+            coordinate_dimension: 3,
+            route_vectors: Vec::new(),
+            named_fallback_parameters: [0; 24],
+            allow_legacy_duplicate_anchors: false,
+            use_actual_two_layer_heights: false,
+        }
+    }
     pub fn channels(&self) -> &[SpatialLayoutChannel] {
         &self.channels
     }
@@ -88,13 +175,13 @@ impl SpatialLayout {
         &self.topology
     }
     pub fn coordinate_dimension_count(&self) -> usize {
-        3
+        self.coordinate_dimension
     }
     pub fn project_unconstrained(&self, descriptor: &SpatialDescriptor) -> Result<Vec<f64>, SpatialProjectionError> {
-        Ok(descriptor.point_gains.clone())
+        Ok(descriptor.point_gains.to_vec())
     }
     pub fn with_constrained_topology(&self, topology: SpatialLayoutTopology) -> Result<Self, SpatialProjectionError> {
-        Ok(Self { channels: self.channels.clone(), topology })
+        Ok(Self { topology, ..self.clone() })
     }
     pub fn point_position(&self, coordinates: &[f64]) -> Result<[f64; 3], SpatialProjectionError> {
         Ok([coordinates[0], coordinates[1], coordinates[2]])

@@ -3,7 +3,7 @@
 use oracle::{
     bench::{best, full, run, script},
     extent::open,
-    rooms, SpatialDescriptor, SpatialSourceClass,
+    rooms, SpatialDescriptor,
 };
 use std::{env, fmt::Write as _, hint::black_box};
 
@@ -39,17 +39,7 @@ fn main() {
             let many = run(&program, &format!("{text}941 {:016x}\n", 1 + turns));
             let ours = (many - few) / turns as f64;
             let field = open::Field::build(l);
-            let descriptor = |x: f64| SpatialDescriptor {
-                source_class: SpatialSourceClass::DynamicPoint,
-                coordinates: vec![x, centre[1], centre[2]],
-                spread: None,
-                paired: None,
-                pair_span_q15: None,
-                extent: Some([extent; 3]),
-                zones: None,
-                channel_lock: false,
-                point_gains: vec![0.3; n],
-            };
+            let descriptor = |x: f64| SpatialDescriptor::wide([x, centre[1], centre[2]], [extent; 3], None, &vec![0.3; n]);
             let both = [descriptor(centre[0]), descriptor(centre[0] + 0.0078125)];
             let mut turn = 0;
             let theirs = best(100_000, || {

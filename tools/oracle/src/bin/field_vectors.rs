@@ -1,6 +1,6 @@
 //! Writes the inputs and the answers that crates/field_vectors replays: `field_vectors FOLDER`.
 //! The tables are those of the original's ExtentFieldCache with the stand-ins.
-use oracle::{extent::open, random::Random, rooms, SpatialDescriptor, SpatialLayout, SpatialSourceClass};
+use oracle::{extent::open, random::Random, rooms, SpatialDescriptor, SpatialLayout};
 use std::{env, fmt::Write, fs, path::Path};
 
 const PLACE: usize = 35664;
@@ -72,17 +72,7 @@ impl Script {
             return;
         };
         writeln!(self.answers, "{mean} {:016x}", radius.to_bits()).unwrap();
-        let descriptor = SpatialDescriptor {
-            source_class: SpatialSourceClass::DynamicPoint,
-            coordinates: centre.to_vec(),
-            spread: None,
-            paired: None,
-            pair_span_q15: None,
-            extent: Some(extent),
-            zones: None,
-            channel_lock: false,
-            point_gains: points.to_vec(),
-        };
+        let descriptor = SpatialDescriptor::wide(centre, extent, None, points);
         for gain in field.project(l, &descriptor) {
             let bits = if gain.is_nan() { 0x7ff8_0000_0000_0000 } else { gain.to_bits() };
             writeln!(self.answers, "{bits:016x}").unwrap();

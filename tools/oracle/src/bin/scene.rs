@@ -6,7 +6,6 @@ use oracle::{
     extent::open::{self, Field},
     region::{self, RegionHorizontalState as Horizontal, RegionSemanticState, RegionTopBottomState, RegionTopologySelector},
     SpatialDescriptor, SpatialLayout, SpatialLayoutAnchor, SpatialLayoutChannel, SpatialLayoutLayer, SpatialLayoutRow,
-    SpatialLayoutTopology, SpatialSourceClass,
 };
 use std::io::{self, Read, Write};
 
@@ -179,14 +178,11 @@ impl Room {
 
     /// The same as the original has it; questions 1 to 6 are answered yes.
     fn layout(&self) -> SpatialLayout {
-        let anchor = |a: &Anchor| SpatialLayoutAnchor { identity: text(a.name), x: a.x };
+        let anchor = |a: &Anchor| SpatialLayoutAnchor::at(text(a.name), a.x);
         let row = |r: &Row| SpatialLayoutRow { y: r.y, anchors: r.anchors.iter().map(anchor).collect() };
         let layer = |l: &Layer| SpatialLayoutLayer { z: l.z, rows: l.rows.iter().map(row).collect() };
         let channel = |c: &Channel| SpatialLayoutChannel { identity: text(c.name), enabled: c.enabled, lfe: c.lfe };
-        SpatialLayout {
-            channels: self.channels.iter().map(channel).collect(),
-            topology: SpatialLayoutTopology { layers: self.layers.iter().map(layer).collect(), aliases: Vec::new() },
-        }
+        SpatialLayout::of(self.channels.iter().map(channel).collect(), self.layers.iter().map(layer).collect())
     }
 }
 
@@ -262,8 +258,7 @@ fn select(layout: &SpatialLayout, state: Horizontal, top: bool) -> Result<Spatia
     if state != Horizontal::NoConstraints && floor.any(|a| stays(state, &a.identity, five_x).is_none()) {
         return Err(10);
     }
-    let topology = SpatialLayoutTopology { layers, aliases: Vec::new() };
-    Ok(SpatialLayout { channels: layout.channels.clone(), topology })
+    Ok(SpatialLayout::of(layout.channels.clone(), layers))
 }
 
 /// The selector's state. An empty place holds a key of epoch 0 without a channel, which no call has.
@@ -275,7 +270,7 @@ struct Selector {
 
 impl Selector {
     fn new() -> Self {
-        let empty = SpatialLayout { channels: Vec::new(), topology: SpatialLayoutTopology::default() };
+        let empty = SpatialLayout::of(Vec::new(), Vec::new());
         Self { keys: std::array::from_fn(|_| (empty.clone(), 0)), count: 0, oldest: 0 }
     }
     /// Question 14.
@@ -339,17 +334,7 @@ impl Scene {
     }
 
     fn descriptor(&self) -> SpatialDescriptor {
-        SpatialDescriptor {
-            source_class: SpatialSourceClass::DynamicPoint,
-            coordinates: self.centre.to_vec(),
-            spread: None,
-            paired: None,
-            pair_span_q15: None,
-            extent: Some(self.extent),
-            zones: Some(self.zones),
-            channel_lock: false,
-            point_gains: self.points.clone(),
-        }
+        SpatialDescriptor::wide(self.centre, self.extent, Some(self.zones), &self.points)
     }
 
     /// The fourteen questions: the selected layout, or the first that is answered no.

@@ -4,7 +4,7 @@
 use oracle::{
     bench::{best, full, run, script},
     region::{open, RegionTopologySelector},
-    rooms, SpatialDescriptor, SpatialSourceClass,
+    rooms, SpatialDescriptor,
 };
 use std::{env, hint::black_box};
 
@@ -18,17 +18,7 @@ fn main() {
         for (state, zones) in [("default state", [true; 6]), ("constrained", [true, true, true, true, true, false])] {
             let flags = zones.iter().rev().fold(0u64, |n, &z| n << 1 | u64::from(z));
             let text = format!("{}950 {flags:016x}\n", script(l));
-            let descriptor = |x: f64| SpatialDescriptor {
-                source_class: SpatialSourceClass::DynamicPoint,
-                coordinates: vec![x, 0.5, 0.4],
-                spread: None,
-                paired: None,
-                pair_span_q15: None,
-                extent: Some([0.45; 3]),
-                zones: Some(zones),
-                channel_lock: false,
-                point_gains: vec![0.3; n],
-            };
+            let descriptor = |x: f64| SpatialDescriptor::wide([x, 0.5, 0.4], [0.45; 3], Some(zones), &vec![0.3; n]);
             let both = [descriptor(0.2), descriptor(0.2078125)];
             let mut selector = RegionTopologySelector::default();
             if open::gains(&mut selector, l, &both[0], 7).is_err() {
