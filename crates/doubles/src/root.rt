@@ -10,6 +10,11 @@ ghost use Rattle.doubles.specs.Root.{sqrtOf, squareUnits, Steps, IsRoot,
 // 2 ^ 27 + 1, which splits a double into two halves of its digits.
 const SPLIT: f64 = 134217729.0;
 
+// How near 1/4 a root is guessed from 1/2, and 2 ^ -20.
+const NEAR: f64 = 9.0e-13;
+
+const LITTLE: f64 = 9.5367431640625e-7;
+
 // A root so far, and what is left: of n it is q with q * q + r = n and r <= 2 q.
 struct Part {
     q: u64,
@@ -90,10 +95,26 @@ fn corrected(x: f64, y: f64) -> f64 {
     s + (0.5 * y) * r
 }
 
-// A guess at √x, by x's pattern b. It promises nothing: `is_rounded` tests it.
+// A guess at √(1/4 + d) for a small d: 1/2 + d, with a little off its last place, since the root is
+// below 1/2 + d and a tie goes down.
+fn guess_near_half(d: f64) -> f64 {
+    let little = d * LITTLE;
+    if d < 0.0 {
+        0.5 + (d + little)
+    } else {
+        0.5 + (d - little)
+    }
+}
+
+// A guess at √x, by x's pattern b. It promises nothing: `is_rounded` tests it. Near 1/4 are the sums of
+// squares that are normalised a second time.
 fn guess(x: f64, b: u64) -> f64
     requires { ⌜ b < 2 ^ 63 ⌝ }
 {
+    let d = x - 0.25;
+    if (d > -NEAR) & (d < NEAR) {
+        return guess_near_half(d);
+    }
     let h = 0.5 * x;
     corrected(x, newton(h, newton(h, newton(h, seed(b)))))
 }

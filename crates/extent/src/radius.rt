@@ -1,6 +1,7 @@
 // Reading an extent: its mean and its radius.
 ghost use mathlib.Core.Path.{_≡_};
-ghost use Prim.Native.Nat.{_+_, _<_};
+ghost use Prim.Native.Nat.{_+_, _<_, min};
+ghost use lib.Ieee.{toUnsigned};
 ghost use Rattle.extent.specs.Extent.{quantised, meanOf, knotAt, radiusBetween, radiusOf, readOf, readingOf, numbersOf};
 use crate::Extent;
 use crate::Reading;
@@ -14,17 +15,29 @@ const E: [f64; 5] = [0.0, 0.2, 0.5, 0.75, 1.0];
 
 const S: [f64; 5] = [0.0, 0.075, 0.25, 0.45, 0.7];
 
-// floor(v * 32768 + 0.5), at most 32767. The product is exact, so the sum is rounded once.
-fn quantise(v: f64) -> u64
-    ensures { λ r. ⌜ r ≡ quantised v ⌝ }
+// q without its fraction, at most 32767; 0 where it is not above 0.
+fn capped(q: f64) -> u64
+    ensures { λ r. ⌜ r ≡ min (toUnsigned 64 q) 32767 ⌝ }
 {
-    let q = floor(v * Q + 0.5);
     if q >= 32767.0 {
         32767
     } else if q > 0.0 {
         std::num::truncating_f64_to_u64(q)
     } else {
         0
+    }
+}
+
+// floor(v * 32768 + 0.5), at most 32767. The product is exact, so the sum is rounded once. A sum above 0
+// needs no floor: its fraction is dropped.
+fn quantise(v: f64) -> u64
+    ensures { λ r. ⌜ r ≡ quantised v ⌝ }
+{
+    let s = v * Q + 0.5;
+    if (s > 0.0) & (s < 32767.0) {
+        std::num::truncating_f64_to_u64(s)
+    } else {
+        capped(floor(s))
     }
 }
 

@@ -1,14 +1,17 @@
 -- A double cut to a whole number from 0 to 32767. Assumes nothing.
-use mathlib.Core.Path.{_≡_, refl, sym, subst}
+use mathlib.Core.Path.{_≡_, refl, sym, ap, _∙_, subst}
 use Prim.Native.Nat.{ℕ, _+_, _*_, _/_, _-_, _^_, _≤_, _<_, min}
 use native.Mathlib.Nat.{le-div-iff-mul-le, div-lt-iff-lt-mul}
 use native.Mathlib.Omega.{arith}
 use mathlib.Core.Bool.{Bool, true, false, _&&_, _||_}
 use lib.IntN.{ℤ, pos}
-use lib.Dec.{T, ltb, eqb, lt→ltb, nltb→le, eqb→eq}
-use lib.Ieee.{Float, nan, inf, fin, up, down, lt, le, eq, toUnsigned}
-use lib.Ieee.Fits.{down-pos}
+use lib.Dec.{T, ltb, eqb, lt→ltb, nltb→le, eqb→eq, ltb→lt, lit≤}
+use lib.Ieee.{Float, nan, inf, fin, binary64, up, down, lt, le, eq, round, ofInt, toUnsigned}
+use lib.Ieee.Back.{unsigned-back}
+use lib.Ieee.Fits.{down-pos, and-l, and-r}
 use Rattle.doubles.specs.Arithmetic.{zero}
+use Rattle.doubles.specs.Floor.{floorOf}
+use Rattle.extent.proofs.Casts.{casts}
 use Rattle.extent.proofs.Tests.{yes, no, at-least, left-not}
 
 -- 32767 as a double
@@ -86,3 +89,41 @@ cut-zero (fin false m e) p =
     let d = down-pos e in
     let q : m * up e / down e < 1 = div-lt-iff-lt-mul d .1 (omega arith) in
     omega arith
+
+-- ---- above 0 and below 32767: the floor is the whole part
+abbrev pub Below : Float → Bool
+Below s = lt zero s && lt s top
+
+below : (s : Float) → T (lt zero s) → T (lt s top) → (m : ℕ) × (e : ℤ) × (s ≡ fin false m e) × (m * up e < 32767 * down e)
+unfolding lt
+below nan p h = absurd p
+below (inf true) p h = absurd p
+below (inf false) p h = absurd h
+below (fin true m e) p h = absurd p
+below (fin false m e) p h = let l = ltb→lt (m * up e * 1) (32767 * 1 * down e) h in (m, e, refl, omega arith)
+
+part : (s : Float) → T (Below s) → (m : ℕ) × (e : ℤ) × (s ≡ fin false m e) × (m * up e < 32767 * down e)
+part s h = below s (and-l (lt zero s) (lt s top) h) (and-r (lt zero s) (lt s top) h)
+
+floor-is : (m : ℕ) (e : ℤ) → floorOf binary64 (fin false m e) ≡ ofInt binary64 (pos (m * up e / down e))
+unfolding floorOf ofInt
+floor-is m e = refl
+
+part-is : (m : ℕ) (e : ℤ) → m * up e / down e < 32767 → toUnsigned 64 (fin false m e) ≡ m * up e / down e
+unfolding toUnsigned
+part-is m e h = omega arith
+
+floor-at : (m : ℕ) (e : ℤ) → m * up e < 32767 * down e → toUnsigned 64 (fin false m e) ≡ cut (floorOf binary64 (fin false m e))
+floor-at m e h =
+    let k = m * up e / down e in
+    let q : k < 32767 = div-lt-iff-lt-mul (down-pos e) .1 h in
+    let b = unsigned-back binary64 64 k (casts k (omega arith)) (omega arith) .1 in
+    let c : min k 32767 ≡ k = omega arith in
+    part-is m e q ∙ sym c ∙ ap (λ (n : ℕ). min n 32767) (sym b) ∙ ap cut (sym (floor-is m e))
+
+pub part-cut : (s : Float) → T (Below s) → toUnsigned 64 s ≡ cut (floorOf binary64 s)
+part-cut s h = let b = part s h in subst (λ (x : Float). toUnsigned 64 x ≡ cut (floorOf binary64 x)) (sym (b .2)) (floor-at (b .0) (b .1) (b .3))
+
+-- what the cast asks for
+pub part-asks : (s : Float) → T (Below s) → Asked s
+part-asks s h = let b = part s h in subst Asked (sym (b .2)) (asked-at (b .0) (b .1) (omega (arith, b .3)))
