@@ -36,7 +36,7 @@ fn first_same(responses: &[f64], samples: usize, k: usize) -> usize
 }
 
 // That channel for each of n.
-pub fn first_columns(out: &mut [usize], n: usize, responses: &[f64], samples: usize)
+pub(crate) fn first_columns(out: &mut [usize], n: usize, responses: &[f64], samples: usize)
     requires { ⌜ (n ≤ 24) × (n ≤ length (now out)) × (samples ≤ 20) × (480 ≤ length (now responses)) ⌝ }
     ensures { λ _. ⌜ Firsts (now (responses .entry)) samples n (now (out .exit)) ⌝ }
 {

@@ -143,7 +143,7 @@ fn add_response(
 }
 
 // The responses on X or Y at the 20 samples, 24 numbers each; out holds zeros.
-pub fn respond(
+pub(crate) fn respond(
     out: &mut [f64],
     at: &[usize],
     parts: &[usize],
@@ -163,7 +163,7 @@ pub fn respond(
 }
 
 // The responses on Z at the 8 samples.
-pub fn respond_z(out: &mut [f64], at: &[usize], parts: &[usize], zs: &[f64], depth: usize)
+pub(crate) fn respond_z(out: &mut [f64], at: &[usize], parts: &[usize], zs: &[f64], depth: usize)
     requires { ⌜ (192 ≤ length (now out)) × (1 ≤ depth) × (depth ≤ length (now zs)) ⌝ }
     requires { ⌜ ((i : ℕ) → i < depth → T (finite (getD (now zs) i nan))) × Parted (now at) (now parts) depth ⌝ }
     ensures { λ _. ⌜ now (out .exit) ≡ respondedZ (now (at .entry)) (now (parts .entry)) (now (zs .entry)) depth 8 (now (out .entry)) ⌝ }

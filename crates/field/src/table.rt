@@ -160,7 +160,7 @@ fn knots_xy(
 }
 
 // The same, for any responses.
-pub fn table_xy(store: &mut [f64], base: usize, n: usize, x: &[f64], y: &[f64])
+pub(crate) fn table_xy(store: &mut [f64], base: usize, n: usize, x: &[f64], y: &[f64])
     requires { ⌜ (base + 1400 * n ≤ length (now store)) × (1 ≤ n) × (n ≤ 24) ⌝ }
     requires { ⌜ (480 ≤ length (now x)) × (480 ≤ length (now y)) ⌝ }
     ensures { λ _. ⌜ now (store .exit) ≡ patched (within base (base + 1400 * n)) (λ (i : ℕ). numberXY (now (x .entry)) (now (y .entry)) ((i - base) / n) ((i - base) % n)) (now (store .entry)) ⌝ }
@@ -209,7 +209,7 @@ fn knots_z(store: &mut [f64], base: usize, n: usize, z: &[f64], firstz: &[usize]
 }
 
 // The same, for any responses.
-pub fn table_z(store: &mut [f64], base: usize, n: usize, z: &[f64])
+pub(crate) fn table_z(store: &mut [f64], base: usize, n: usize, z: &[f64])
     requires { ⌜ (base + 1480 * n ≤ length (now store)) × (1 ≤ n) × (n ≤ 24) ⌝ }
     requires { ⌜ 480 ≤ length (now z) ⌝ }
     ensures { λ _. ⌜ now (store .exit) ≡ patched (within (base + 1400 * n) (base + 1480 * n)) (λ (i : ℕ). knotNumber Z (now (z .entry)) ((i - base) / n - 1400) ((i - base) % n)) (now (store .entry)) ⌝ }
@@ -220,7 +220,13 @@ pub fn table_z(store: &mut [f64], base: usize, n: usize, z: &[f64])
 }
 
 // An end response: the n responses at one sample.
-pub fn end_response(store: &mut [f64], from: usize, n: usize, responses: &[f64], sample: usize)
+pub(crate) fn end_response(
+    store: &mut [f64],
+    from: usize,
+    n: usize,
+    responses: &[f64],
+    sample: usize,
+)
     requires { ⌜ (from + n ≤ length (now store)) × (n ≤ 24) × (sample < 20) × (480 ≤ length (now responses)) ⌝ }
     ensures { λ _. ⌜ now (store .exit) ≡ patched (within from (from + n)) (λ (i : ℕ). getD (now (responses .entry)) (sample * 24 + (i - from)) nan) (now (store .entry)) ⌝ }
 {

@@ -347,7 +347,7 @@ fn on_axes(
 }
 
 // The diffuse field before it is normalised.
-pub fn diffuse(
+pub(crate) fn diffuse(
     out: &mut [f64; 24],
     store: &[f64],
     base: usize,

@@ -8,7 +8,7 @@ use crate::knots::radius_knot;
 use crate::knots::step;
 
 // i / 34
-pub fn wide_knot(i: usize) -> f64
+pub(crate) fn wide_knot(i: usize) -> f64
     requires { ⌜ i ≤ 64 ⌝ }
     ensures { λ r. ⌜ r ≡ steps 34 i ⌝ }
 {
@@ -53,7 +53,7 @@ pub fn wide_knot(i: usize) -> f64
 }
 
 // i / 3
-pub fn high_knot(i: usize) -> f64
+pub(crate) fn high_knot(i: usize) -> f64
     requires { ⌜ i ≤ 64 ⌝ }
     ensures { λ r. ⌜ r ≡ steps 3 i ⌝ }
 {
@@ -67,7 +67,7 @@ pub fn high_knot(i: usize) -> f64
 }
 
 // 0.7 * i / 19
-pub fn round_knot(i: usize) -> f64
+pub(crate) fn round_knot(i: usize) -> f64
     requires { ⌜ i ≤ 64 ⌝ }
     ensures { λ r. ⌜ r ≡ radiusKnot i ⌝ }
 {
@@ -97,7 +97,7 @@ pub fn round_knot(i: usize) -> f64
 }
 
 // i / last, of the centre knots.
-pub fn centre_knot(i: usize, last: usize) -> f64
+pub(crate) fn centre_knot(i: usize, last: usize) -> f64
     requires { ⌜ (i ≤ 64) × T (eqb last 34 || eqb last 3) ⌝ }
     ensures { λ r. ⌜ r ≡ steps last i ⌝ }
 {

@@ -77,7 +77,7 @@ fn knot_after(value: f64, last: usize, g: usize) -> usize
 }
 
 // The knots about value among i / last: the end one at or beyond an end. A NaN stays a NaN.
-pub fn bracket(value: f64, last: usize) -> Bracket
+pub(crate) fn bracket(value: f64, last: usize) -> Bracket
     requires { ⌜ T (eqb last 34 || eqb last 3) ⌝ }
     ensures { λ r. ⌜ r ≡ bracketOf (listed (steps last) (last + 1)) value ⌝ }
 {
@@ -154,7 +154,7 @@ fn radius_after(value: f64, g: usize) -> usize
 }
 
 // The same for the radius knots.
-pub fn radius_bracket(value: f64) -> Bracket
+pub(crate) fn radius_bracket(value: f64) -> Bracket
     ensures { λ r. ⌜ r ≡ bracketOf radiusKnots value ⌝ }
 {
     if value <= 0.0 {
@@ -195,7 +195,14 @@ fn mix(a: f64, b: f64, t: f64) -> f64
 }
 
 // The numbers of n channels between four knots, radius first, from a table that begins at `from`.
-pub fn lookup(out: &mut [f64; 24], store: &[f64], from: usize, n: usize, c: Bracket, r: Bracket)
+pub(crate) fn lookup(
+    out: &mut [f64; 24],
+    store: &[f64],
+    from: usize,
+    n: usize,
+    c: Bracket,
+    r: Bracket,
+)
     requires { ⌜ (n ≤ 24) × (c .lower ≤ c .upper) × (c .upper ≤ 34) × (r .lower ≤ r .upper) × (r .upper ≤ 19) ⌝ }
     requires { ⌜ from + (c .upper * 20 + 20) * n ≤ length (now store) ⌝ }
     ensures { λ _. ⌜ now (out .exit) ≡ channels n (λ (k : ℕ). lookupOf (λ (i : ℕ). getD (now (store .entry)) (from + (i * n + k)) nan) c r) ++ drop n (now (out .entry)) ⌝ }

@@ -27,7 +27,7 @@ fn wall_y(y: f64) -> Wall
     }
 }
 
-pub fn distance_of(w: Wall) -> f64
+pub(crate) fn distance_of(w: Wall) -> f64
     ensures { λ r. ⌜ r ≡ distanceOf w ⌝ }
 {
     match w {
@@ -49,7 +49,7 @@ fn nearer(a: Wall, b: Wall) -> Wall
 }
 
 // The nearest wall: x, 1 - x, y, 1 - y and, with Z, 1 - z only; a tie to the first.
-pub fn nearest_wall(c: Centre, deep: bool) -> Wall
+pub(crate) fn nearest_wall(c: Centre, deep: bool) -> Wall
     ensures { λ r. ⌜ r ≡ nearestWall c deep ⌝ }
 {
     let w = nearer(wall_x(c.x), wall_y(c.y));

@@ -8,7 +8,7 @@ ghost use Rattle.layout.specs.Questions.{inRoom, ordered};
 use layout::place_of;
 
 // Whether the first n numbers of v are all different.
-pub fn all_distinct(v: &[u64], n: usize) -> bool
+pub(crate) fn all_distinct(v: &[u64], n: usize) -> bool
     requires { ⌜ n ≤ length (now v) ⌝ }
     ensures { λ r. ⌜ r ≡ allDistinct (take n (now (v .entry))) ⌝ }
 {
@@ -23,7 +23,7 @@ pub fn all_distinct(v: &[u64], n: usize) -> bool
 }
 
 // Whether v, from a up to b, is finite, from -1 to 1 and strictly ascending.
-pub fn is_ordered(v: &[f64], a: usize, b: usize) -> bool
+pub(crate) fn is_ordered(v: &[f64], a: usize, b: usize) -> bool
     requires { ⌜ b ≤ length (now v) ⌝ }
     ensures { λ r. ⌜ r ≡ ordered (slice a b (now (v .entry))) ⌝ }
 {

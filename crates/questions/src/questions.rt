@@ -39,7 +39,7 @@ fn channel_names(l: Layout, out: &mut [u64; 24])
 }
 
 // Whether the first n numbers of v are names.
-pub fn all_names(v: &[u64], n: usize) -> bool
+pub(crate) fn all_names(v: &[u64], n: usize) -> bool
     requires { ⌜ n ≤ length (now v) ⌝ }
     ensures { λ r. ⌜ r ≡ all validName (take n (now (v .entry))) ⌝ }
 {

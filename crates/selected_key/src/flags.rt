@@ -85,7 +85,7 @@ fn flag_layer(kept: &mut [bool], key: &[u64], at: usize, end: usize, rule: Rule)
 }
 
 // Writes which anchors stay.
-pub fn kept_flags(
+pub(crate) fn kept_flags(
     key: &[u64],
     places: &[f64],
     used: usize,
@@ -147,7 +147,7 @@ fn layer_classed(
 }
 
 // Question 10: each anchor of the layers at z = 0 has a class.
-pub fn bed_classed(
+pub(crate) fn bed_classed(
     key: &[u64],
     places: &[f64],
     used: usize,

@@ -28,7 +28,7 @@ fn clear(out: &mut [u64])
 }
 
 // Copies the first n numbers of a key.
-pub fn copy_first(key: &[u64], n: usize, out: &mut [u64])
+pub(crate) fn copy_first(key: &[u64], n: usize, out: &mut [u64])
     requires { ⌜ (length (now key) ≡ 156) × (length (now out) ≡ 156) × (n ≤ 156) ⌝ }
     ensures { λ _. ⌜ now (out .exit) ≡ paste (now (out .entry)) 0 (now (key .entry)) n ⌝ }
 {
@@ -189,7 +189,7 @@ fn pack_topology(key: &[u64], kept: &[bool], depth: usize, rows: usize, out: &mu
 }
 
 // The key of the layout with just the anchors that are kept; and how many layers are left.
-pub fn pack_kept(key: &[u64], kept: &[bool], depth: usize, out: &mut [u64]) -> usize
+pub(crate) fn pack_kept(key: &[u64], kept: &[bool], depth: usize, out: &mut [u64]) -> usize
     requires { ⌜ (length (now key) ≡ 156) × (length (now kept) ≡ 24) × (length (now out) ≡ 156) ⌝ }
     requires { ⌜ depth ≤ 4 ⌝ }
     ensures { λ r. ⌜ ((l : LayoutValue) (e : ℕ) (places : List Float) → PackedAs l e (now (key .entry)) places → Accepted l → depth ≡ l .depth → (now (out .exit) ≡ keyWords (keptLayout (now (kept .entry)) l) e) × (r ≡ keptLayout (now (kept .entry)) l .depth)) ⌝ }

@@ -85,7 +85,7 @@ fn layer_classed(
 }
 
 // Question 10: each anchor of the layers at z = 0 has a class.
-pub fn bed_classed(l: Layout, state: RegionSemanticState) -> bool
+pub(crate) fn bed_classed(l: Layout, state: RegionSemanticState) -> bool
     requires { ⌜ l .depth ≤ 4 ⌝ }
     ensures { λ r. ⌜ r ≡ question10 state l ⌝ }
 {

@@ -144,7 +144,7 @@ fn kept_layers(l: Layout, counts: [usize; 4]) -> Layers
 }
 
 // The layout with just the anchors that are kept; channels stay, empty rows and layers go.
-pub fn select_kept(l: Layout, kept: [bool; 24]) -> Layout
+pub(crate) fn select_kept(l: Layout, kept: [bool; 24]) -> Layout
     requires { ⌜ l .depth ≤ 4 ⌝ }
     ensures { λ r. ⌜ topologyOf r ≡ keptTopology kept (topologyOf l) ⌝ }
     ensures arrays { λ r. ⌜ r ≡ keptLayout kept l ⌝ }

@@ -50,7 +50,7 @@ fn selected(
 }
 
 // Questions 7 to 10. The key of the selected layout goes to `out`.
-pub fn plan(
+pub(crate) fn plan(
     e: Extent,
     flags: [bool; 6],
     key: &[u64; 156],

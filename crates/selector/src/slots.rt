@@ -35,7 +35,7 @@ fn has_key(words: &[u64], p: usize, key: &[u64]) -> bool
 }
 
 // The place of the first equal key, from the oldest on; 8 where there is none.
-pub fn find(words: &[u64], count: usize, oldest: usize, key: &[u64]) -> usize
+pub(crate) fn find(words: &[u64], count: usize, oldest: usize, key: &[u64]) -> usize
     requires { ⌜ (length (now words) ≡ 1248) × (count ≤ 8) × (oldest < 8) × (length (now key) ≡ 156) ⌝ }
     ensures { λ r. ⌜ r ≡ findFrom (now (words .entry)) (now (key .entry)) oldest (upTo count) ⌝ }
 {
@@ -51,7 +51,7 @@ pub fn find(words: &[u64], count: usize, oldest: usize, key: &[u64]) -> usize
 }
 
 // Puts the key at a place.
-pub fn put(words: &mut [u64], p: usize, key: &[u64])
+pub(crate) fn put(words: &mut [u64], p: usize, key: &[u64])
     requires { ⌜ (length (now words) ≡ 1248) × (p < 8) × (length (now key) ≡ 156) ⌝ }
     ensures { λ _. ⌜ now (words .exit) ≡ withKey (now (words .entry)) p (now (key .entry)) ⌝ }
 {
