@@ -1,10 +1,3 @@
 pub mod KeyCompare
-pub mod KeyEntries
-pub mod KeyLaws
-pub mod Places
 pub mod ActiveKeys
 pub mod Questions
-pub mod Held
-pub mod Serving
-pub mod Calls
-pub mod Law

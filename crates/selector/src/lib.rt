@@ -2,7 +2,6 @@
 ghost use mathlib.Core.Path.{_≡_};
 ghost use Rattle.selector.specs.Call.{outcomeOf, answerOf};
 ghost use Rattle.selector.specs.Steps.{callBy, freshSelector, foundIn, selectorOf};
-ghost use Rattle.selector.specs.Rule.{SelectorLaw};
 
 mod asked;
 mod call;
@@ -109,11 +108,6 @@ impl Selector {
         }
     }
 }
-
-// What holds of any list of calls on one selector, from a fresh one and any doubles in the store.
-pub fn selector_law()
-    ensures { λ _. ⌜ SelectorLaw ⌝ }
-{}
 
 // What questions 7 to 10 leave of a call: the number of the first no, 0 where there is none, and then
 // the region state, the mean and the radius.

@@ -1,9 +1,9 @@
 -- The law of every list of calls. Assumes nothing.
 use mathlib.Core.List.{List, [], _∷_}
 use Rattle.selector.specs.Call.{Call, Found}
-use Rattle.selector.specs.Rule.{KeptList, none, fresh, AllRight, AllTyped, SelectorLaw}
-use Rattle.selector.proofs.Held.{Holds, fresh-holds}
-use Rattle.selector.proofs.Calls.{step}
+use Rattle.selector_law.specs.Rule.{KeptList, none, fresh, AllRight, AllTyped, SelectorLaw}
+use Rattle.selector_law.proofs.Held.{Holds, fresh-holds}
+use Rattle.selector_law.proofs.Calls.{step}
 
 all-right : (k : KeptList) (f : Found) (calls : List Call) → Holds k f → AllTyped calls → AllRight k f calls
 all-right k f [] h t = tt

@@ -20,10 +20,10 @@ use Rattle.field_laws.proofs.Filling.{fill-twice, fill-other}
 use Rattle.field_laws.proofs.SameTopologies.{Doubles}
 use Rattle.field_laws.proofs.SamePlaces.{same-filled}
 use Rattle.keys.specs.Keys.{keyWords, keyAt, withKey, upTo}
 use Rattle.selector.specs.Call.{Call, Found, question14, newPlace}
-use Rattle.selector.specs.Rule.{Key, packedKey, sameKey, KeptList, heldKeys, none, fresh}
-use Rattle.selector.proofs.Places.{grown, turned, listed-up}
-use Rattle.selector.proofs.KeyLaws.{Sound, key-length, with-length, with-here, with-other}
+use Rattle.selector_law.specs.Rule.{Key, packedKey, sameKey, KeptList, heldKeys, none, fresh}
+use Rattle.selector_law.proofs.Places.{grown, turned, listed-up}
+use Rattle.selector_law.proofs.KeyLaws.{Sound, key-length, with-length, with-here, with-other}
 
 abbrev pub noKey : Key
 noKey = record { layout = emptyLayout; epoch = 0 }

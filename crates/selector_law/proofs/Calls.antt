@@ -19,15 +19,15 @@ use Rattle.extent.specs.Extent.{meanOf}
 use Rattle.field.specs.Place.{filled}
 use Rattle.field.proofs.PlaceNumbers.{filled-length}
 use Rattle.field_laws.proofs.SamePlaces.{same-filled}
 use Rattle.selector.specs.declared.Word.{Word}
 use Rattle.selector.specs.declared.Word.the-variants.{Unused, Kept, Built}
 use Rattle.keys.specs.Keys.{keyWords, keyAt, withKey}
 use Rattle.selector.specs.Call.{Call, Found, Answer, isGain, answered, argumentQuestions, callQuestions, placeOfKey, selectedOf, wanted, keyOf, gainsBy, newPlace, built, refusedBy, acceptedWith, served, answerOf}
-use Rattle.selector.specs.Rule.{Key, packedKey, sameKey, callKey, KeptList, none, refusalBy, isHeld, leaves, isFull, withNew, afterCall, storeAfter, wordsAfter, wordBy, fresh, Typed, Right}
-use Rattle.selector.proofs.KeyLaws.{Sound, key-same, same-key, find-place, find-where, find-none}
+use Rattle.selector_law.specs.Rule.{Key, packedKey, sameKey, callKey, KeptList, none, refusalBy, isHeld, leaves, isFull, withNew, afterCall, storeAfter, wordsAfter, wordBy, fresh, Typed, Right}
+use Rattle.selector_law.proofs.KeyLaws.{Sound, key-same, same-key, find-place, find-where, find-none}
 use Rattle.selector.proofs.Questions.{asked-alone, Said, said}
-use Rattle.selector.proofs.Held.{noKey, Has, Holds, fresh-holds, asks-14, holds-keys, grown-holds, turned-holds}
-use Rattle.selector.proofs.Serving.{yes, true-of, selected-sound, store-big, served-field, served-point, served-bounded, point-served-bounded}
+use Rattle.selector_law.proofs.Held.{noKey, Has, Holds, fresh-holds, asks-14, holds-keys, grown-holds, turned-holds}
+use Rattle.selector_law.proofs.Serving.{yes, true-of, selected-sound, store-big, served-field, served-point, served-bounded, point-served-bounded}
 
 -- ---- a key among keys
 any-it : (p : Key → Bool) (ks : List Key) (i : ℕ) → i < length ks → p (getD ks i noKey) ≡ true → any p ks ≡ true

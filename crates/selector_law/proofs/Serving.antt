@@ -31,10 +31,10 @@ use Rattle.selection.specs.Select.{keptLayout}
 use Rattle.selection.specs.Selection.{keptFlags, selectedLayout}
 use Rattle.region.specs.Zones.{isDefault}
 use Rattle.selection.proofs.Selections.{selected-sized, selected-accepted, selected-zs-fit, selected-ys-fit, selected-xs-fit}
 use Rattle.selector.specs.Call.{Call, isGain, stateOf, answered, question12, question13, selectedOf, wanted, gainsBy}
-use Rattle.selector.specs.Rule.{Typed}
+use Rattle.selector_law.specs.Rule.{Typed}
 use Rattle.selector.proofs.Questions.{Said}
-use Rattle.selector.proofs.KeyLaws.{Sound}
+use Rattle.selector_law.proofs.KeyLaws.{Sound}
 
 -- ---- gains as tests and as facts
 pub yes : (b : Bool) → b ≡ true → T b
