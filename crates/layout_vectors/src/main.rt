@@ -7,8 +7,9 @@
 // anchors; coordinates as bit patterns. 900 takes an empty layout; 901 to 904 add an enabled channel
 // of that name, a layer at that z, a row at that y, and an anchor at that x with the name that 905
 // gave. 910 puts the layout aside. Three commands write a line: 920 the first question whose answer
-// is no and how many active channels, rows and anchors there are, 921 whether the layout equals the
-// one put aside, 922 the place of that name among the active channels.
+// is no and how many active channels, rows and anchors there are, 921 whether the layout has the key
+// of the one put aside, 922 the place of that name among the active channels, or their number where
+// it is none of them.
 use layout::Anchor;
 use layout::Channel;
 use layout::Layout;
@@ -127,12 +128,39 @@ fn ask(l: Layout) {
     put(layout::anchor_total(l) as u64, b"\n");
 }
 
+// Whether two keys are equal.
+fn is_same(a: &[u64; 156], b: &[u64; 156]) -> bool {
+    let mut i = 0usize;
+    while i < 156 {
+        if a[i] != b[i] {
+            return false;
+        }
+        i += 1;
+    }
+    true
+}
+
 fn compare(a: Layout, b: Layout) {
-    if questions::same_layout(a, b) {
+    let mut places = [0.0f64; 52];
+    let mut first = [0u64; 156];
+    keys::pack(a, 0, &mut first, &mut places);
+    let mut second = [0u64; 156];
+    keys::pack(b, 0, &mut second, &mut places);
+    if is_same(&first, &second) {
         io::write_all(STDOUT_FILENO, b"same\n");
     } else {
         io::write_all(STDOUT_FILENO, b"other\n");
     }
+}
+
+fn place_among(names: &[u64; 24], n: usize, name: u64) -> usize {
+    layout::place_of(names, n, name)
+}
+
+fn place(l: Layout, name: u64) {
+    let mut names = [0u64; 24];
+    let n = layout::active_names(l, &mut names);
+    put(place_among(&names, n, name) as u64, b"\n");
 }
 
 fn done(s: State, k: u64, v: u64) -> State {
@@ -182,7 +210,7 @@ fn tell(s: State, k: u64, v: u64) {
     } else if k == 921 {
         compare(l, aside);
     } else {
-        put(layout::active_place(l, v) as u64, b"\n");
+        place(l, v);
     }
 }
 
