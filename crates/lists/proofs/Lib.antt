@@ -1,7 +1,6 @@
 pub mod Loops
 pub mod Tests
 pub mod Filter
-pub mod Same
 pub mod Chunks
 pub mod Fill
 pub mod Takes

@@ -1,2 +1,0 @@
-pub mod Compare
-pub mod Covered
