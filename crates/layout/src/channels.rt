@@ -3,14 +3,12 @@ ghost use mathlib.Core.Path.{_≡_};
 ghost use mathlib.Core.List.{_++_};
 ghost use Prim.Native.Nat.{min};
 ghost use lib.ListN.{drop};
-ghost use Rattle.lists.specs.Lists.{placeOf};
 ghost use Rattle.layout.specs.Channels.{active, activeNames, activeCount};
 use crate::Channel;
 use crate::Layout;
-use crate::places::place_of;
 
 // Whether a channel takes part: it is enabled and not LFE.
-pub fn is_active(c: Channel) -> bool
+fn is_active(c: Channel) -> bool
     ensures { λ r. ⌜ r ≡ active c ⌝ }
 {
     c.enabled & !c.lfe
@@ -59,13 +57,4 @@ pub fn active_names(l: Layout, out: &mut [u64; 24]) -> usize
         i += 1;
     }
     n
-}
-
-// The place of a name among those of the active channels; their number where it is none of them.
-pub fn active_place(l: Layout, name: u64) -> usize
-    ensures { λ r. ⌜ r ≡ placeOf name (activeNames l) ⌝ }
-{
-    let mut names = [0u64; 24];
-    let n = active_names(l, &mut names);
-    place_of(&names, n, name)
 }

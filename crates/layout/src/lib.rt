@@ -11,9 +11,7 @@ mod starts;
 
 pub use channels::active_count;
 pub use channels::active_names;
-pub use channels::active_place;
 pub use channels::covered;
-pub use channels::is_active;
 pub use name::is_name;
 pub use places::place_of;
 pub use starts::anchor_starts;
