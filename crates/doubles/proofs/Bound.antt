@@ -18,7 +18,7 @@ use lib.Ieee.Scale.{grid, finite, round-same}
 use Rattle.doubles.specs.Root.{sqrtOf, roundRoot}
 use Rattle.doubles.specs.Arithmetic.{zero as zeroF}
 use Rattle.doubles.specs.Norm.{fiveQuarters, foldSquares, Bounded}
-use Rattle.doubles.proofs.Magnitude.{mag, mag-of, mag-val, sign, plain, plain-finite, plain-val, plain-of, round-at, mul-at, mul-cross, div-at, mag-lt}
+use Rattle.doubles.proofs.Magnitude.{mag, mag-of, mag-val, sign, plain, plain-finite, plain-val, round-at, mul-at, mul-cross, div-at, mag-lt}
 use Rattle.doubles.proofs.Rounding.{grid-near, step-small}
 use Rattle.doubles.proofs.Signs.{clear, notNeg, round-clear, round-zero, add-clear, square-clear}
 use Rattle.doubles.proofs.Order.{mag-mono, mag-le, clear-finite, plain-under, round-le, round-under-value, grid-is, add-ge, add-parts}

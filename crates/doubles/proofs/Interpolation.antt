@@ -12,7 +12,7 @@ use lib.Ieee.Fits.{down-pos, up-pos, and-l, round-is, round-fits}
 use mathlib.Core.Logic.{_⊎_, inl, inr}
 use lib.Ieee.Order.{transfer}
 use lib.Ieee.Scale.{finite}
-use Rattle.doubles.proofs.Magnitude.{mag, mag-of, mag-val, plain, plain-finite, plain-val, plain-of, mul-at}
+use Rattle.doubles.proofs.Magnitude.{mag, mag-of, mag-val, plain, plain-finite, plain-val, mul-at}
 use Rattle.doubles.proofs.Signs.{clear, notNeg, round-clear, round-zero, mul-clear, add-clear, cond-clear}
 use Rattle.doubles.proofs.Order.{mag-mono, plain-under, round-under-value}
 

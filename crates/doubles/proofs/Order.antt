@@ -13,7 +13,7 @@ use lib.Ieee.Fits.{and-l, down-pos, round-fits}
 use lib.Ieee.Exact.{HasValue}
 use lib.Ieee.Order.{transfer, le-of-values, round-mono}
 use lib.Ieee.Scale.{grid, finite, round-val, round-under}
-use Rattle.doubles.proofs.Magnitude.{mag, mag-of, plain, plain-finite, plain-val, plain-of, round-at, add-at, mul-at}
+use Rattle.doubles.proofs.Magnitude.{mag, mag-of, plain, plain-finite, plain-val, round-at, add-at, mul-at}
 use Rattle.doubles.proofs.Signs.{clear, round-clear}
 
 -- ---- the order of two values, by their sizes

@@ -97,9 +97,6 @@ floor-above x p q =
     (ofInt-is (toUnsigned 64 (fin false (s .0) (s .1))) ∙ ap (λ (n : ℕ). round binary64 false n 1) (cut (s .0) (s .1) (s .3) .1) ∙ sym (floor-plain (s .0) (s .1)))
 
 -- ---- x is below zero and above -2 ^ 53: so is -x as above
-turned : (m : ℕ) (e : ℤ) → neg (fin true m e) ≡ fin false m e
-unfolding neg
-turned m e = refl
 
 -- the tests of x, as tests of -x
 pub turn : (x : Float) → T (lt x zeroF) → T (lt (neg B) x) → T (lt zeroF (neg x)) × T (lt (neg x) B)
@@ -167,9 +164,6 @@ under (fin true m e) p q = (m, e, refl, refl, lt-of-le-of-lt (le-of-eq (sym (mul
 
 -- with n the whole part of -x: one more where it is less than -x, and n itself where not
 module _ (x : Float) (p : T (lt x zeroF)) (q : T (lt (neg B) x)) where
-  u : Under x
-  u = under x p q
-
   abbrev m : ℕ
   m = under x p q .0
 
