@@ -7,7 +7,6 @@ use lib.Dec.{T, eqb, eqb→eq, eqb-refl}
 use lib.Ieee.{Float, eq}
 use lib.Ieee.Fits.{eq→eqb}
 use lib.Ieee.Scale.{finite}
-use lib.ListN.{length, length-map}
 use mir.Facts.{and-yes, yes-and}
 use Rattle.doubles.specs.Arithmetic.{one, minusOne}
 use Rattle.doubles.specs.Range.{between}
@@ -210,10 +209,3 @@ same-shared a b h =
       ys = entries-places sameRow rowY rowCount row-opens row-closes (usedRows a) (usedRows b) (p .rows);
       xs = entries-places sameAnchor anchorX anchorName anchor-opens anchor-closes (usedAnchors a) (usedAnchors b) (p .anchors);
     }
-
-module _ (a b : Layout) (s : Shared a b) where
-  pub shared-rows : length (usedRows a) ≡ length (usedRows b)
-  shared-rows = sym (length-map (usedRows a) rowCount) ∙ ap length (s .rowCounts) ∙ length-map (usedRows b) rowCount
-
-  pub shared-anchors : length (usedAnchors a) ≡ length (usedAnchors b)
-  shared-anchors = sym (length-map (usedAnchors a) anchorName) ∙ ap length (s .anchorNames) ∙ length-map (usedAnchors b) anchorName

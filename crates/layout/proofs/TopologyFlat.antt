@@ -1,7 +1,7 @@
--- The topology of any layout by the flat lists and the starts, for code that walks these: as a whole, and layer by layer and row by row.
+-- The topology of any layout by the flat lists and the starts, for code that walks these: its lists, and each layer and row.
 use Prim.Native.Nat.{ℕ, suc, _≤_, _<_}
-use mathlib.Core.Path.{_≡_, ap, ap₂, _∙_}
-use mathlib.Core.List.{List, map}
+use mathlib.Core.Path.{_≡_, ap, _∙_}
+use mathlib.Core.List.{map}
 use native.Mathlib.Omega.{arith}
 use lib.ListN.{length, getD, take, length-map}
 use lib.Seq.{slice, getD-take, length-take-le}
@@ -11,7 +11,7 @@ use Rattle.layout.specs.declared.Layout.{Layout}
 use Rattle.layout.specs.Topology.{TopologyRow, TopologyLayer, topologyOf, rowsOf, usedLayers, usedRows, usedAnchors, rowY, rowCount, layerZ, layerCount, startsFrom, rowStarts, anchorStarts, noRow, noLayer}
 use Rattle.layout.specs.Questions.{topologyY, topologyZ}
 use Rattle.layout.proofs.TopologyLists.{concat-chunks}
-use Rattle.layout.proofs.TopologyStarts.{topologyAnchors, topologyRows, rows-y, rows-anchors, rows-take, rows-length, layers-z, layers-rows, layers-length, starts-take, rowsBetween, layersBetween, rows-between, layers-between, rows-at, layers-at}
+use Rattle.layout.proofs.TopologyStarts.{topologyAnchors, topologyRows, rows-y, rows-anchors, rows-take, rows-length, layers-z, layers-rows, layers-length, starts-take, rows-at, layers-at}
 
 module _ (l : Layout) where
   -- the rows of all layers, and the anchors of all rows
@@ -40,13 +40,6 @@ module _ (l : Layout) (layers : length (l .layers) ≡ 4) (rows : length (l .row
   used-starts =
       let n = length-map (l .layers) layerCount in
       ap (startsFrom 0) (map-take layerCount (l .depth) (l .layers)) ∙ starts-take (l .depth) (map layerCount (l .layers)) 0 (omega arith)
-
-  pub topology-flat : topologyOf l ≡ layersBetween (take (suc (l .depth)) (rowStarts l)) (usedLayers l) (rowsBetween (anchorStarts l) (l .rows) (l .anchors))
-  topology-flat =
-      let ts = rowsOf (l .rows) (l .anchors) in
-      let n = rows-length (l .rows) (l .anchors) in
-      layers-between (usedLayers l) ts 0 (omega arith)
-      ∙ ap₂ (λ (s : List ℕ) (t : List TopologyRow). layersBetween s (usedLayers l) t) used-starts (rows-between (l .rows) (l .anchors) 0 (omega arith))
 
   pub topology-layer : (i : ℕ) (d : TopologyLayer) → i < l .depth →
       getD (topologyOf l) i d ≡ record { z = getD (l .layers) i noLayer .z; rows = slice (getD (rowStarts l) i 0) (getD (rowStarts l) (suc i) 0) (rowsOf (l .rows) (l .anchors)) }

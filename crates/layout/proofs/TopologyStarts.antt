@@ -96,33 +96,6 @@ module _ {A : Type 0} where
       ap₂ (λ (p : List A) (r : List (List A)). p ∷ r) (part-here s c xs h)
       (ap (chunks (d ∷ ds)) (part-rest s c xs h) ∙ starts-parts (d ∷ ds) (min (s + c) 24) xs h)
 
--- ---- the topology between starts
-abbrev pub rowsBetween : List ℕ → List Row → List Anchor → List TopologyRow
-rowsBetween (a ∷ b ∷ starts) (r ∷ rs) xs = record { y = r .y; anchors = slice a b xs } ∷ rowsBetween (b ∷ starts) rs xs
-rowsBetween (a ∷ b ∷ starts) [] xs = []
-rowsBetween (a ∷ []) rs xs = []
-rowsBetween [] rs xs = []
-
-abbrev pub layersBetween : List ℕ → List Layer → List TopologyRow → List TopologyLayer
-layersBetween (a ∷ b ∷ starts) (l ∷ ls) rs = record { z = l .z; rows = slice a b rs } ∷ layersBetween (b ∷ starts) ls rs
-layersBetween (a ∷ b ∷ starts) [] rs = []
-layersBetween (a ∷ []) ls rs = []
-layersBetween [] ls rs = []
-
-pub rows-between : (rs : List Row) (xs : List Anchor) (s : ℕ) → length xs ≤ 24 → rowsOf rs (drop s xs) ≡ rowsBetween (startsFrom s (map rowCount rs)) rs xs
-rows-between [] xs s h = refl
-rows-between (r ∷ []) xs s h = ap {B = List TopologyRow} (λ t. record { y = r .y; anchors = t } ∷ []) (part-here s (r .count) xs h)
-rows-between (r ∷ q ∷ rs) xs s h =
-    ap₂ {C = List TopologyRow} (λ t u. record { y = r .y; anchors = t } ∷ u) (part-here s (r .count) xs h)
-    (ap (rowsOf (q ∷ rs)) (part-rest s (r .count) xs h) ∙ rows-between (q ∷ rs) xs (min (s + r .count) 24) h)
-
-pub layers-between : (ls : List Layer) (rs : List TopologyRow) (s : ℕ) → length rs ≤ 24 → layersOf ls (drop s rs) ≡ layersBetween (startsFrom s (map layerCount ls)) ls rs
-layers-between [] rs s h = refl
-layers-between (l ∷ []) rs s h = ap {B = List TopologyLayer} (λ t. record { z = l .z; rows = t } ∷ []) (part-here s (l .count) rs h)
-layers-between (l ∷ m ∷ ls) rs s h =
-    ap₂ {C = List TopologyLayer} (λ t u. record { z = l .z; rows = t } ∷ u) (part-here s (l .count) rs h)
-    (ap (layersOf (m ∷ ls)) (part-rest s (l .count) rs h) ∙ layers-between (m ∷ ls) rs (min (s + l .count) 24) h)
-
 -- ---- row i and layer i of the topology
 
 pub rows-at : (rs : List Row) (xs : List Anchor) (s i : ℕ) (d : TopologyRow) → length xs ≤ 24 → i < length rs →
