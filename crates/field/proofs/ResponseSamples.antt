@@ -1,15 +1,14 @@
--- The samples: each is finite and from 0 to 1, and the first and the last are 0 and 1. By computing. Assumes nothing.
+-- The samples: each is finite, and the first and the last are 0 and 1. By computing. Assumes nothing.
 use Prim.Native.Nat.{ℕ, suc, _<_}
 use Prim.Native.Nat as Nat
 use mathlib.Core.Path.{_≡_, refl}
 use mathlib.Core.Bool.{Bool, true, _&&_}
 use native.Mathlib.Omega.{arith}
 use lib.Dec.{T}
-use lib.Ieee.{Float, le, lt, eq, div, ofInt, round}
+use lib.Ieee.{div, ofInt, round}
 use lib.Ieee.Scale.{finite}
 use lib.Ieee.Fits.{and-l, and-r}
 use Rattle.doubles.specs.Arithmetic.{zero, one}
-use Rattle.doubles.specs.Range.{between}
 use Rattle.field.specs.Knots.{Axis, X, Y, Z, steps, sample, sampleCount}
 
 -- ---- the ends
@@ -28,8 +27,6 @@ unfolding div ofInt round
 last-sample-z = refl
 
 -- ---- every one
-abbrev within : Float → Bool
-within u = finite u && between zero one u
 
 -- a test of 0, 1 up to n - 1
 unfoldable pub first : (ℕ → Bool) → ℕ → Bool
@@ -42,21 +39,11 @@ at p Nat.zero i t h = absurd (omega arith)
 at p (suc n) Nat.zero t h = and-l (p 0) (first (λ (i : ℕ). p (suc i)) n) t
 at p (suc n) (suc i) t h = at (λ (j : ℕ). p (suc j)) n i (and-r (p 0) (first (λ (j : ℕ). p (suc j)) n) t) (omega arith)
 
-samples : (a : Axis) → T (first (λ (s : ℕ). within (sample a s)) (sampleCount a))
-unfolding first div ofInt round le lt eq
+samples : (a : Axis) → T (first (λ (s : ℕ). finite (sample a s)) (sampleCount a))
+unfolding first div ofInt round
 samples X = tt
 samples Y = tt
 samples Z = tt
 
-module _ (a : Axis) (s : ℕ) (h : s < sampleCount a) where
-  sample-within : T (within (sample a s))
-  sample-within = at (λ (i : ℕ). within (sample a i)) (sampleCount a) s (samples a) h
-
-  pub sample-finite : T (finite (sample a s))
-  sample-finite = and-l (finite (sample a s)) (between zero one (sample a s)) sample-within
-
-  pub sample-low : T (le zero (sample a s))
-  sample-low = and-l (le zero (sample a s)) (le (sample a s) one) (and-r (finite (sample a s)) (between zero one (sample a s)) sample-within)
-
-  pub sample-high : T (le (sample a s) one)
-  sample-high = and-r (le zero (sample a s)) (le (sample a s) one) (and-r (finite (sample a s)) (between zero one (sample a s)) sample-within)
+pub sample-finite : (a : Axis) (s : ℕ) → s < sampleCount a → T (finite (sample a s))
+sample-finite a s h = at (λ (i : ℕ). finite (sample a i)) (sampleCount a) s (samples a) h

@@ -18,7 +18,7 @@ use Rattle.doubles.specs.Range.{between}
 use Rattle.doubles.proofs.Signs.{clear}
 use Rattle.doubles.proofs.Magnitude.{plain}
 use Rattle.doubles.proofs.Differences.{UpTo}
-use Rattle.doubles.proofs.Laws.{sine-range, cosine-range, add-fits, div-fits}
+use Rattle.doubles.proofs.Laws.{sine-range, cosine-range}
 use Rattle.doubles.proofs.Ratio.{ratio-in-room}
 use Rattle.doubles.proofs.Weights.{angle-range, add-from-zero}
 use Rattle.lists.specs.Lists.{all, chain, concat}
@@ -35,10 +35,9 @@ use Rattle.layout.proofs.TopologyLists.{map-drop}
 use Rattle.layout.proofs.TopologyStarts.{rows-y, layers-z}
 use Rattle.field.specs.declared.Pick.{Pick}
 use Rattle.field.specs.declared.Pick.the-variants.{One, Two}
-use Rattle.field.specs.Knots.{Axis, X, Y, Z, sample, sampleCount}
+use Rattle.field.specs.Knots.{Axis, X, Y, Z}
 use Rattle.field.specs.Responses.{Weight, twoAt, below, pairAt, pickOf, layerPick, weighted, spread, alone, rowAnchors, layerAnchors, rowWeightsX, layerWeightsX, layerWeightsY, weightsOn, addedUp, responseOn}
 use Rattle.field.proofs.ResponseOrder.{lt-of-not-le}
-use Rattle.field.proofs.ResponseSamples.{sample-low, sample-high}
 use Rattle.field.proofs.ResponseSpread.{all-in}
 use Rattle.field.proofs.response.Picks as picks
 use Rattle.field.proofs.response.Picks.{below-before, below-at}
@@ -229,23 +228,10 @@ added-clear s name (w ∷ ws) c h = added-clear _ name ws (go (eqb (w .name) nam
     go true = add-from-zero binary64 s x c low
     go false = c
 
-added-fits : (s : Float) (name : ℕ) (ws : List Weight) → T (fits binary64 s) → T (fits binary64 (addedUp s name ws))
-unfolding addedUp
-added-fits s name [] h = h
-added-fits s name (w ∷ ws) h = added-fits _ name ws (go (eqb (w .name) name))
-  where
-    go : (b : Bool) → T (fits binary64 (cond b (s ⊕ w .weight) s))
-    go true = add-fits s (w .weight)
-    go false = h
-
--- ---- a response has no sign, and is a double
+-- ---- a response has no sign
 pub response-clear : (a : Axis) (t : List TopologyLayer) (u : Float) (name : ℕ) → T (ordered (map topologyZ t)) → T (all orderedLayer t) → T (fitTopology t) → T (fits binary64 u) → T (le zero64 u) → T (le u one) → T (clear (responseOn a t u name))
 unfolding responseOn
 response-clear a t u name oz ol ft fu lo hi = added-clear zero64 name (weightsOn a t u) tt (weights-unit u fu lo hi t oz ol ft a)
-
-pub response-fits : (a : Axis) (t : List TopologyLayer) (u : Float) (name : ℕ) → T (fits binary64 (responseOn a t u name))
-unfolding responseOn
-response-fits a t u name = added-fits zero64 name (weightsOn a t u) (unfold fits in tt)
 
 -- ---- the coordinates of a layout's topology are doubles where those of its lists are
 module _ {A : Type 0} (p : A → Bool) where
@@ -288,13 +274,3 @@ topology-fits l z y x =
 pub layout-response-clear : (l : Layout) → Accepted l → T (all (fits binary64) (map layerZ (l .layers))) → T (all (fits binary64) (map rowY (l .rows))) → T (all (fits binary64) (map anchorX (l .anchors))) →
     (a : Axis) (u : Float) (name : ℕ) → T (fits binary64 u) → T (le zero64 u) → T (le u one) → T (clear (responseOn a (topologyOf l) u name))
 layout-response-clear l k z y x a u name fu lo hi = response-clear a (topologyOf l) u name (k .zOrdered) (k .layersOrdered) (topology-fits l z y x) fu lo hi
-
--- at a sample
-pub sample-response-clear : (l : Layout) → Accepted l → T (all (fits binary64) (map layerZ (l .layers))) → T (all (fits binary64) (map rowY (l .rows))) → T (all (fits binary64) (map anchorX (l .anchors))) →
-    (a : Axis) (s name : ℕ) → s < sampleCount a → T (clear (responseOn a (topologyOf l) (sample a s) name))
-sample-response-clear l k z y x a s name h = layout-response-clear l k z y x a (sample a s) name (sample-fits a s) (sample-low a s h) (sample-high a s h)
-  where
-    sample-fits : (b : Axis) (i : ℕ) → T (fits binary64 (sample b i))
-    sample-fits X i = div-fits (whole (pos i)) (whole (pos 19))
-    sample-fits Y i = div-fits (whole (pos i)) (whole (pos 19))
-    sample-fits Z i = div-fits (whole (pos i)) (whole (pos 7))

@@ -4,12 +4,11 @@ use mathlib.Core.Path.{_≡_, refl, ap, _∙_}
 use mathlib.Core.Bool.{Bool, true, false, cond}
 use mathlib.Core.List.{List}
 use native.Mathlib.Nat.{div-eq-of-lt-le, mod-eq-sub-div-mul, mul-le-mul-right}
-use native.Mathlib.Numerals.{add-one}
 use native.Mathlib.Omega.{arith}
 use borrow.Author.Tests.{lt-ltb, le-ltb}
 use lib.Dec.{T}
-use lib.Ieee.{Float, nan, binary64, le, lt, fits}
-use lib.ListN.{length, getD}
+use lib.Ieee.{Float, binary64, le, lt, fits}
+use lib.ListN.{length}
 use Rattle.doubles.specs.Arithmetic.{_⊕_, _⊗_}
 use Rattle.doubles.specs.Arithmetic.{zero as zero64}
 use Rattle.doubles.specs.Exp2.{exp2Of}
@@ -69,16 +68,7 @@ number-Y x y r k =
     ap (λ (b : Bool). cond b (knotNumber X x (700 + r) k) (knotNumber Y y (700 + r - 700) k)) (le-ltb (700 + r) 700 (omega arith))
     ∙ ap (λ (q : ℕ). knotNumber Y y q k) (omega arith)
 
--- ---- sums over the samples
-pub sampled-none : (K R : ℕ → Float) (e : Float) → sampledOver K R e 0 ≡ zero64
-unfolding sampledOver
-sampled-none K R e = refl
-
-pub sampled-more : (K R : ℕ → Float) (e : Float) (s : ℕ) → sampledOver K R e (s + 1) ≡ addSample (K s) (R s) e (sampledOver K R e s)
-unfolding sampledOver
-sampled-more K R e s = rw add-one
-
--- kernels and responses that are equal below the count
+-- ---- sums over the samples: equal where kernels and responses are, below the count
 pub sampled-cong : (K L R S : ℕ → Float) (e : Float) (c : ℕ) → ((s : ℕ) → s < c → K s ≡ L s) → ((s : ℕ) → s < c → R s ≡ S s) → sampledOver K R e c ≡ sampledOver L S e c
 unfolding sampledOver
 sampled-cong K L R S e zero p q = refl
@@ -122,19 +112,8 @@ module _ (P : Float → Type 0) (h : (K R : ℕ → Float) (e : Float) (c : ℕ)
   sampledOn-has a t i j name =
       h (λ (s : ℕ). kernelOf (sample a s) (centreKnot a i) (radiusKnot j) (isZ a)) (λ (s : ℕ). responseOn a t (sample a s) name) (exponentOf (radiusKnot j)) (sampleCount a)
 
-  knotNumber-has : (a : Axis) (responses : List Float) (knot k : ℕ) → P (knotNumber a responses knot k)
-  unfolding knotNumber
-  knotNumber-has a responses knot k =
-      h (λ (s : ℕ). kernelOf (sample a s) (centreKnot a (knot / 20)) (radiusKnot (knot % 20)) (isZ a)) (λ (s : ℕ). getD responses (s * 24 + k) nan) (exponentOf (radiusKnot (knot % 20))) (sampleCount a)
-
 pub sampledOn-clear : (a : Axis) (t : List TopologyLayer) (i j name : ℕ) → T (clear (sampledOn a t i j name))
 sampledOn-clear = sampledOn-has (λ (x : Float). T (clear x)) sampledOver-clear
 
 pub sampledOn-fits : (a : Axis) (t : List TopologyLayer) (i j name : ℕ) → T (fits binary64 (sampledOn a t i j name))
 sampledOn-fits = sampledOn-has (λ (x : Float). T (fits binary64 x)) sampledOver-fits
-
-pub knotNumber-clear : (a : Axis) (responses : List Float) (knot k : ℕ) → T (clear (knotNumber a responses knot k))
-knotNumber-clear = knotNumber-has (λ (x : Float). T (clear x)) sampledOver-clear
-
-pub knotNumber-fits : (a : Axis) (responses : List Float) (knot k : ℕ) → T (fits binary64 (knotNumber a responses knot k))
-knotNumber-fits = knotNumber-has (λ (x : Float). T (fits binary64 x)) sampledOver-fits

@@ -2,11 +2,11 @@
 use Prim.Native.Nat.{ℕ, _+_, _≤_, _<_}
 use mathlib.Core.Path.{_≡_, refl, sym, _∙_}
 use mathlib.Core.Bool.{true, false}
-use mathlib.Core.List.{List, [], _∷_}
+use mathlib.Core.List.{List, []}
 use native.Mathlib.Nat.{add-assoc, add-zero}
 use native.Mathlib.Omega.{arith}
 use lib.Ieee.{Float, nan, lt}
-use lib.ListN.{length, getD, take, set, length-take, drop-of-length-le, length-set}
+use lib.ListN.{length, getD, take, set, length-take, drop-of-length-le}
 use lib.Seq.{slice}
 use Rattle.lists.proofs.Loops.{slice-more}
 use Rattle.doubles.specs.Arithmetic.{_⊕_}
@@ -36,8 +36,3 @@ module _ (base : ℕ) (w : Float) where
   pub added-none : (out : List Float) → addedAt base w [] out ≡ out
   unfolding addedAt
   added-none out = refl
-
-  pub added-length : (ks : List ℕ) (out : List Float) → length (addedAt base w ks out) ≡ length out
-  unfolding addedAt
-  added-length [] out = refl
-  added-length (k ∷ ks) out = added-length ks (set out (base + k) (getD out (base + k) nan ⊕ w)) ∙ length-set out (base + k) (getD out (base + k) nan ⊕ w)
