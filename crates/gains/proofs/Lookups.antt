@@ -2,12 +2,12 @@
 use Prim.Native.Nat.{ℕ, suc, _+_, _-_, _*_, _≤_, _<_}
 use mathlib.Core.Path.{_≡_, refl, sym, ap, _∙_, subst}
 use mathlib.Core.Logic.{_⊎_, inl, inr}
-use mathlib.Core.Bool.{Bool, true, false, not}
+use mathlib.Core.Bool.{Bool, true, false}
 use native.Mathlib.Nat.{le-refl, mul-le-mul-right}
 use native.Mathlib.Omega.{arith}
 use borrow.Author.Tests.{le-ltb}
 use lib.Dec.{T}
-use lib.Ieee.{Float, nan, inf, fin, binary64, up, down, add, mul, lt, le, eq, fits, isNan}
+use lib.Ieee.{Float, nan, inf, fin, binary64, up, down, add, mul, lt, le, eq, fits}
 use lib.Ieee.Scale.{finite}
 use Rattle.doubles.specs.Arithmetic.{_⊕_, _⊖_, _⊘_, one}
 use Rattle.doubles.specs.Arithmetic.{zero as zero64}
@@ -38,14 +38,6 @@ pub record Placed (last : ℕ) (v : Float) (b : Bracket) : Type 0 where
   pub within : b .upper ≤ last
   pub double : T (fits binary64 (b .t))
   pub share : Share v (b .t)
-
--- of a v that is no NaN
-pub share-number : (v t : Float) → T (not (isNan v)) → Share v t → T (finite t) × T (le zero64 t) × T (le t one)
-share-number v t h (inl p) = absurd (none v (p .0) h)
-  where
-    none : (v : Float) → v ≡ nan → T (not (isNan v)) → ⊥
-    none v e h = unfold isNan in subst (λ (z : Float). T (not (isNan z))) e h
-share-number v t h (inr p) = p
 
 at-knot : (last : ℕ) (v : Float) (i : ℕ) → i ≤ last → Placed last v (atKnot i)
 unfolding lt le eq fits
@@ -94,16 +86,6 @@ module _ (f : ℕ → Float) (last : ℕ) (r : Rising f last) (v : Float) (d : T
       go false true true e g h = subst (Placed last v) (sym (at-last f last r v g h)) (at-knot last v last (omega arith))
       go false true false e g h = between g h
 
--- the knots of `bracket` are the centre knots
-pub knots-X : listed (steps 34) (34 + 1) ≡ centreKnots X
-knots-X = refl
-
-pub knots-Y : listed (steps 34) (34 + 1) ≡ centreKnots Y
-knots-Y = refl
-
-pub knots-Z : listed (steps 3) (3 + 1) ≡ centreKnots Z
-knots-Z = refl
-
 pub placed-X : (v : Float) → T (fits binary64 v) → Placed 34 v (bracketOf (centreKnots X) v)
 placed-X v d = placed (steps 34) 34 rising-34 v d
 
@@ -124,10 +106,6 @@ table-room from n last size v b p h =
     omega (arith, mul-le-mul-right n l)
 
 -- ---- lookups
-pub lookup-fits : (row : ℕ → Float) (c r : Bracket) → T (fits binary64 (lookupOf row c r))
-unfolding lookupOf
-lookup-fits row c r = add-fits _ _
-
 add-nan : (a : Float) → T (clear (a ⊕ nan))
 unfolding add
 add-nan nan = tt

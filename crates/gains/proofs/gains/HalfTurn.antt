@@ -10,9 +10,9 @@ use lib.Dec.{T, ltb, eqb, lit<, lit≤}
 use lib.Ieee.{Float, nan, inf, fin, up, down, round, mul, div, lt, le, eq, ofInt}
 use lib.Ieee.Fits.{down-pos}
 use lib.Ieee.Positive.{num, den, den-pos}
-use Rattle.doubles.specs.Arithmetic.{_⊗_, _⊘_, dec, whole, one}
+use Rattle.doubles.specs.Arithmetic.{_⊗_, _⊘_, one}
 use Rattle.doubles.specs.Arithmetic.{zero as zero64}
-use Rattle.doubles.specs.Circular.{H, sineOf, cosineOf}
+use Rattle.doubles.specs.Circular.{sineOf, cosineOf}
 use Rattle.doubles.specs.Range.{clampTo}
 use Rattle.doubles.proofs.Signs.{notNeg}
 use Rattle.doubles.proofs.Laws.{div-fits, mul-notNeg, notNeg-of-le, sine-range, cosine-range}
@@ -90,10 +90,6 @@ from0 t y q w = (le-of zero64 t tt (w .0) (le-trans (le-of-eq (zero-mul (den t))
 
 angle-range : (a : Float) → Within a one → T (le zero64 (PI ⊗ a ⊘ two)) × T (le (PI ⊗ a ⊘ two) half)
 angle-range a w = from0 (PI ⊗ a ⊘ two) half tt (half-turn-within a w)
-
-pub half-turn : (a : Float) → T (plain a) → T (le a one) → T (le zero64 (dec 3141592653589793 15 ⊗ a ⊘ whole (pos 2))) × T (le (dec 3141592653589793 15 ⊗ a ⊘ whole (pos 2)) H)
-unfolding round ofInt
-half-turn a p h = angle-range a (p, under-of a one p tt h)
 
 -- ---- the blend's a: 20 × radius, clamped
 below-never : (a b : ℕ) → 0 < b → ltb 0 (a + b) ≡ false → ⊥
