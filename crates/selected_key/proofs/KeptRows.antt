@@ -19,9 +19,8 @@ use Rattle.keys.specs.Keys.{yPattern, zPattern}
 use Rattle.selection.specs.Select.{picked, countSet, isPositive, recountedRows, recountedLayers, countedRow, countedLayer, padded, keptLayout, keptLayers, anchorCounts}
 use Rattle.selection.proofs.Flat.{used-counts}
 use Rattle.selection.proofs.Picks.{filter-split}
-use Rattle.selection.proofs.KeptCounts.{rows-counts, parts-long, positive-sum, positive-length}
+use Rattle.selection.proofs.KeptCounts.{rows-counts, parts-long, parts-sum, positive-sum, positive-length}
 use Rattle.selection.proofs.KeptAccepted.{keptRows, layers-are, kept-used-layers}
-use Rattle.selection.proofs.KeptBlank.{parts-sum}
 use Rattle.selected_key.specs.Kept.{countsOf}
 
 -- ---- the first n of the lists

@@ -9,6 +9,7 @@ use native.Mathlib.Omega.{arith}
 use borrow.Author.Tests.{eqb-true, eqb-false, not-true, not-false}
 use lib.Dec.{T, eqb, leb, leb→le, le→leb}
 use lib.ListN.{length, take, drop}
+use lib.Seq.{drop-drop}
 use mir.Facts.{and-yes, yes-and}
 use Rattle.lists.specs.Lists.{all, filter, total, chunks, bit}
 use Rattle.layout.specs.declared.Row.{Row}
@@ -48,7 +49,7 @@ count-take zero bs = omega arith
 count-take (suc c) [] = omega arith
 count-take (suc c) (b ∷ bs) = omega (arith, bit-most b, count-take c bs)
 
-pub count-split : (c : ℕ) (bs : List Bool) → countSet (take c bs) + countSet (drop c bs) ≡ countSet bs
+count-split : (c : ℕ) (bs : List Bool) → countSet (take c bs) + countSet (drop c bs) ≡ countSet bs
 count-split zero bs = zero-add (countSet bs)
 count-split (suc c) [] = omega arith
 count-split (suc c) (b ∷ bs) = omega (arith, count-split c bs)
@@ -61,9 +62,12 @@ pub parts-long : (ns : List ℕ) (bs : List Bool) → length (map countSet (chun
 parts-long [] bs = refl
 parts-long (n ∷ ns) bs = ap suc (parts-long ns (drop n bs))
 
+pub parts-sum : (ns : List ℕ) (bs : List Bool) → total (map countSet (chunks ns bs)) + countSet (drop (total ns) bs) ≡ countSet bs
+parts-sum [] bs = zero-add (countSet bs)
+parts-sum (n ∷ ns) bs = omega (arith, parts-sum ns (drop n bs), ap countSet (drop-drop (total ns) n bs), count-split n bs)
+
 pub parts-total : (ns : List ℕ) (bs : List Bool) → total (map countSet (chunks ns bs)) ≤ countSet bs
-parts-total [] bs = omega arith
-parts-total (n ∷ ns) bs = omega (arith, count-split n bs, parts-total ns (drop n bs))
+parts-total ns bs = omega (arith, parts-sum ns bs)
 
 -- ---- those that are not zero
 positive-most : (n : ℕ) → isPositive n ≡ true → 1 ≤ n

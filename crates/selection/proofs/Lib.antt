@@ -9,7 +9,6 @@ pub mod KeptOrder
 pub mod KeptAnchors
 pub mod KeptCounts
 pub mod KeptAccepted
-pub mod KeptBlank
 pub mod Tested
 pub mod LayerAnchors
 pub mod FlagLayers

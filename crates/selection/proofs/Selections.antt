@@ -8,7 +8,6 @@ use borrow.Author.Tests.{leb-true, le-leb, lt-leb, lt-ltb, le-ltb, eq-eqb, ne-eq
 use lib.Dec.{T, leb, eqb}
 use lib.Ieee.{Float, fits, binary64}
 use lib.ListN.{length, drop, replicate}
-use lib.Seq.{drop-append-seam}
 use mir.Facts.{and-yes, yes-and}
 use Rattle.lists.specs.Lists.{all, filter, concat}
 use Rattle.layout.specs.declared.Layer.{Layer}
@@ -27,7 +26,7 @@ use Rattle.region.specs.declared.RegionSemanticState.{RegionSemanticState}
 use Rattle.selection.specs.declared.Selected.{Selected}
 use Rattle.region.specs.Zones.{isInclude, isNoConstraints, isDefault}
 use Rattle.region.specs.Classes.{fiveX}
-use Rattle.selection.specs.Select.{picked, countSet, hasRows, recountedRows, recountedLayers, countedRow, countedLayer, padded, anchorCounts, rowCounts, keptLayout, keptLayers}
+use Rattle.selection.specs.Select.{picked, hasRows, recountedRows, recountedLayers, countedRow, countedLayer, padded, anchorCounts, rowCounts, keptLayout, keptLayers}
 use Rattle.selection.specs.Selection.{stays, passingFrom, classedLayer, selectedTopology, question9, question10, layerFlags, keptFlags, selectedLayout, selectionRefusal, selectionOf}
 use Rattle.selection.proofs.Flat.{kept-arrays}
 use Rattle.selection.proofs.KeptAccepted.{padded-length, kept-sized, kept-used-layers, kept-yes}
@@ -86,28 +85,14 @@ some : (n : ℕ) → not (eqb n 0) ≡ leb 1 n
 some zero = ap not (eq-eqb 0 0 refl) ∙ sym (lt-leb 1 0 (omega arith))
 some (suc n) = ap not (ne-eqb (suc n) 0 (λ q. omega (arith, q))) ∙ sym (le-leb 1 (suc n) (omega arith))
 
-none-set : (k n : ℕ) → countSet (drop k (replicate n false)) ≡ 0
-none-set zero zero = refl
-none-set zero (suc n) = omega (arith, none-set zero n)
-none-set (suc k) zero = refl
-none-set (suc k) (suc n) = none-set k n
-
 -- ---- arrays and topology
 module _ (l : Layout) (z : Sized l) (s : RegionSemanticState) where
-  -- one flag for each of the 24 anchors, none past the last
+  -- one flag for each of the 24 anchors
   flags-count : length (layerFlags (stays s l) 0 (topologyOf l)) ≡ length (usedAnchors l)
   flags-count = layers-flags (stays s l) 0 (topologyOf l) ∙ ap length (ap (λ t. concat (map topologyAnchors t)) (topology-rows l) ∙ topology-anchors l)
 
   pub flags-long : length (keptFlags s l) ≡ 24
   flags-long = padded-length (replicate 24 false) (layerFlags (stays s l) 0 (topologyOf l)) 24 refl (omega (arith, flags-count, anchors-fit l z))
-
-  -- so the kept layout's arrays are blank past its counts (KeptBlank)
-  pub flags-none : countSet (drop (length (usedAnchors l)) (keptFlags s l)) ≡ 0
-  flags-none =
-      let f = layerFlags (stays s l) 0 (topologyOf l) in
-      ap (λ (n : ℕ). countSet (drop n (keptFlags s l))) (sym flags-count)
-      ∙ ap countSet (drop-append-seam f (drop (length f) (replicate 24 false)))
-      ∙ none-set (length f) 24
 
   kept-topology : topologyOf (keptLayout (keptFlags s l) l) ≡ filter hasRows (passingFrom (stays s l) 0 (topologyOf l))
   kept-topology = kept-arrays l (keptFlags s l) (flags-long ∙ sym (z .anchors)) ∙ kept-tested (stays s l) (topologyOf l) _
