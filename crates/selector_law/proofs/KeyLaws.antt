@@ -1,19 +1,19 @@
 -- Equal keys are same layouts and equal epochs; keys stand apart in their places; and what a search for a key finds.
 use Prim.Native.Nat.{ℕ, zero, suc, _+_, _-_, _*_, _%_, _<_, _≤_}
 use mathlib.Core.Path.{_≡_, refl, sym, ap, _∙_}
-use mathlib.Core.Bool.{Bool, true, false, _||_, cond, true≢false}
+use mathlib.Core.Bool.{Bool, true, false, cond, true≢false}
 use mathlib.Core.List.{List, [], _∷_, _++_, map, map-map}
 use mathlib.Core.Logic.{_⊎_, inl, inr}
 use native.Mathlib.Nat.{mod-lt}
 use native.Mathlib.Omega.{arith}
 use lib.Dec.{T, eqb, ltb}
-use borrow.Author.Tests.{ltb-true, ltb-false, lt-ltb}
-use lib.Ieee.{Float, eq, fits, binary64}
+use borrow.Author.Tests.{ltb-true, ltb-false}
+use lib.Ieee.{Float, eq}
 use lib.Ieee.Fits.{eq→eqb}
 use lib.ListN.{length, take, drop, getD, length-append, length-drop}
 use lib.Seq.{length-take-le, take-at, drop-at, take-append-le, take-take, drop-append-add, drop-drop, getD-take}
 use mir.Facts.{yes-and}
-use Rattle.lists.specs.Lists.{all, any, allSame, total}
+use Rattle.lists.specs.Lists.{all, allSame, total}
 use Rattle.lists.proofs.Chunks.{slice-take}
 use Rattle.layout.specs.declared.Anchor.{Anchor}
 use Rattle.layout.specs.declared.Row.{Row}
@@ -247,15 +247,6 @@ module _ (words key : List ℕ) (p : ℕ) where
       go true g f w j h q = absurd (omega (arith, at-most i))
       go false g f w zero h q = true≢false (sym (rw q (equal-same key)) ∙ g)
       go false g f w (suc j) h q = w f j (omega arith) q
-
-  -- and so the keys in the places tell whether there is one
-  pub find-held : (is : List ℕ) → ltb (findFrom words key p is) 8 ≡ any (λ (k : List ℕ). allSame eqb k key) (map (λ (i : ℕ). keyAt words ((p + i) % 8)) is)
-  find-held [] = refl
-  find-held (i ∷ is) = go (holds i) (find-held is)
-    where
-      go : (b : Bool) {c : Bool} → ltb (findFrom words key p is) 8 ≡ c → ltb (cond b (at i) (findFrom words key p is)) 8 ≡ (b || c)
-      go true e = lt-ltb (at i) 8 (at-most i)
-      go false e = e
 
   -- ---- the laws of a search through n places from the oldest on
   module _ (n : ℕ) (few : n ≤ 8) where
