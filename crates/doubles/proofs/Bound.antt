@@ -2,27 +2,26 @@
 use mathlib.Core.Path.{_≡_, refl, sym, ap, _∙_, subst}
 use mathlib.Core.Logic.{_⊎_, inl, inr}
 use mathlib.Core.List.{List, [], _∷_, List·Memᴰ, List·Memᴰ·head, List·Memᴰ·tail}
-use Prim.Native.Nat.{ℕ, zero, suc, _+_, _-_, _*_, _/_, _%_, _^_, _≤_, _<_, zero-le}
-use native.Mathlib.Nat.{pow-succ', mul-lt-mul-of-pos-left, zero-div, le-trans, le-refl, le-of-eq, le-of-lt, lt-of-lt-of-le, lt-of-le-of-lt, lt-of-not-le, le-of-suc-le-suc, not-le-of-lt, lt-irrefl, zero-lt-suc, zero-mul, mul-one, one-mul, mul-comm, mul-assoc, mul-left-comm, mul-right-comm, mul-mul-mul-comm, add-mul, mul-le-mul, mul-le-mul-right, mul-le-mul-left, le-of-mul-le-mul-right, mul-lt-mul-of-pos-right, mul-pos}
+use Prim.Native.Nat.{ℕ, zero, suc, _+_, _-_, _*_, _/_, _^_, _≤_, _<_, zero-le}
+use native.Mathlib.Nat.{pow-succ', mul-lt-mul-of-pos-left, zero-div, le-trans, le-refl, le-of-eq, lt-of-lt-of-le, lt-of-le-of-lt, lt-of-not-le, le-of-suc-le-suc, not-le-of-lt, lt-irrefl, zero-lt-suc, zero-mul, mul-one, one-mul, mul-comm, mul-assoc, mul-left-comm, mul-mul-mul-comm, mul-le-mul, mul-le-mul-right, mul-le-mul-left, le-of-mul-le-mul-right, mul-lt-mul-of-pos-right, mul-pos}
 use native.Mathlib.Omega.{arith}
-use mathlib.Core.Bool.{Bool, true, false, not, cond}
-use lib.IntN.{ℤ, pos, negsuc}
-use lib.Dec.{T, leb, ltb, eqb, eqb→eq, eqb·suc-zero, ltb→lt, lit≤, lit<}
-use lib.Pow.{pow-add, pow-pos, pow-mono}
+use mathlib.Core.Bool.{Bool, true, false, cond}
+use lib.IntN.{ℤ, pos}
+use lib.Dec.{T, eqb, eqb→eq, eqb·suc-zero, ltb→lt, lit≤}
+use lib.Pow.{pow-pos}
 use lib.Ieee.{Float, nan, inf, fin, Format, binary32, binary64, prec, emax, low, up, down, round, add, mul, div, lt, le, fits}
 use lib.Ieee.Fits.{two, two-le-pos, down-pos, up-pos, mul-fits, add-fits, round-fits, nan-fits, inf-fits}
-use lib.Ieee.Exact.{HasValue}
 use lib.Ieee.Order.{drop, le-of-values}
 use lib.Ieee.Positive.{first-pos}
 use lib.Ieee.Scale.{grid, finite, round-same}
 use Rattle.doubles.specs.Root.{sqrtOf, roundRoot}
 use Rattle.doubles.specs.Arithmetic.{zero as zeroF}
 use Rattle.doubles.specs.Norm.{fiveQuarters, foldSquares, Bounded}
-use Rattle.doubles.proofs.Magnitude.{mag, mag-of, mag-val, sign, plain, plain-finite, plain-val, round-at, mul-at, mul-cross, div-at, mag-lt}
+use Rattle.doubles.proofs.Magnitude.{mag, mag-of, mag-val, plain, plain-finite, plain-val, mul-cross, div-at, mag-lt}
 use Rattle.doubles.proofs.Rounding.{grid-near, step-small}
-use Rattle.doubles.proofs.Signs.{clear, notNeg, round-clear, round-zero, add-clear, square-clear}
-use Rattle.doubles.proofs.Order.{mag-mono, mag-le, clear-finite, plain-under, round-le, round-under-value, grid-is, add-ge, add-parts}
-use Rattle.doubles.proofs.Roots.{handed, root-fraction, root-under, root-over, sq-le-back, sq-lt-back}
+use Rattle.doubles.proofs.Signs.{clear, notNeg, round-zero, add-clear, square-clear}
+use Rattle.doubles.proofs.Order.{mag-mono, clear-finite, round-le, round-under-value, grid-is, add-ge, add-parts}
+use Rattle.doubles.proofs.Roots.{handed, root-fraction, root-under, root-over, sq-le-back}
 
 -- ---- the sum: no partial sum and no square is above it
 sum-from : (f : Format) (s : Float) (v : List Float) → T (clear s) → T (fits f s) → T (finite (foldSquares f s v)) → T (plain s) × T (plain (foldSquares f s v)) × (mag f s ≤ mag f (foldSquares f s v))

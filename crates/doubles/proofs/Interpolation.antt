@@ -1,20 +1,18 @@
 -- a + t * (b - a), each operation rounded, has no sign or is a NaN, where a and b are such and t is from 0 to 1. Assumes nothing.
 use mathlib.Core.Path.{_≡_, refl, sym, ap, _∙_, subst}
-use Prim.Native.Nat.{ℕ, zero, suc, _+_, _-_, _*_, _/_, _%_, _^_, _≤_, _<_, zero-le}
-use native.Mathlib.Nat.{le-trans, le-of-eq, le-of-lt, lt-irrefl, lt-of-lt-of-le, not-le-of-lt, sub-le, zero-lt-suc, zero-mul, mul-one, one-mul, mul-comm, mul-assoc, mul-left-comm, mul-right-comm, mul-le-mul-right, mul-le-mul-left, mul-pos}
-use native.Mathlib.Omega.{arith}
+use Prim.Native.Nat.{ℕ, zero, suc, _+_, _-_, _*_, _^_, _≤_, _<_, zero-le}
+use native.Mathlib.Nat.{le-trans, le-of-eq, lt-irrefl, lt-of-lt-of-le, not-le-of-lt, sub-le, zero-lt-suc, zero-mul, mul-one, mul-comm, mul-assoc, mul-right-comm, mul-le-mul-right, mul-pos}
 use mathlib.Core.Bool.{Bool, true, false, not, cond, Bool·beq}
-use lib.IntN.{ℤ, pos, negsuc}
-use lib.Dec.{T, ltb, eqb, eqb→eq, ltb→lt, nltb→le}
+use lib.IntN.{ℤ, pos}
+use lib.Dec.{T, ltb, eqb, eqb→eq, ltb→lt}
 use lib.Pow.{pow-pos}
 use lib.Ieee.{Float, nan, inf, fin, Format, binary32, binary64, prec, emax, low, up, down, odd, units, round, sum, add, sub, neg, mul, le, fits}
 use lib.Ieee.Fits.{down-pos, up-pos, and-l, round-is, round-fits}
 use mathlib.Core.Logic.{_⊎_, inl, inr}
 use lib.Ieee.Order.{transfer}
-use lib.Ieee.Scale.{finite}
-use Rattle.doubles.proofs.Magnitude.{mag, mag-of, mag-val, plain, plain-finite, plain-val, mul-at}
-use Rattle.doubles.proofs.Signs.{clear, notNeg, round-clear, round-zero, mul-clear, add-clear, cond-clear}
-use Rattle.doubles.proofs.Order.{mag-mono, plain-under, round-under-value}
+use Rattle.doubles.proofs.Magnitude.{mag, mag-of, mag-val, plain, plain-val, mul-at}
+use Rattle.doubles.proofs.Signs.{clear, notNeg, round-clear, round-zero, mul-clear, add-clear}
+use Rattle.doubles.proofs.Order.{mag-mono, round-under-value}
 
 -- ---- the sign that `round` is given, on its result
 neg-odd : (d q k l : ℕ) → neg (odd d false q k l) ≡ odd d true q k l

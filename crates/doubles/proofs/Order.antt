@@ -1,19 +1,17 @@
 -- The order of values whose sign is clear is that of their sizes in units. A fraction up to such a value is rounded to no more than it, and one from it up to no less. Assumes nothing.
-use mathlib.Core.Path.{_≡_, refl, sym, ap, _∙_, subst}
+use mathlib.Core.Path.{_≡_, sym, subst}
 use mathlib.Core.Logic.{_⊎_, inl, inr}
-use Prim.Native.Nat.{ℕ, zero, suc, _+_, _-_, _*_, _/_, _%_, _^_, _≤_, _<_}
-use native.Mathlib.Nat.{le-trans, le-of-eq, le-of-lt, lt-of-lt-of-le, le-add-right, le-add-left, mul-comm, mul-right-comm, add-mul, mul-assoc, mul-left-comm, mul-le-mul-right, le-of-mul-le-mul-right, mul-pos}
-use native.Mathlib.Omega.{arith}
-use mathlib.Core.Bool.{Bool, true, false, not, _&&_, _||_, cond, true≢false}
-use lib.IntN.{ℤ, pos, negsuc}
+use Prim.Native.Nat.{ℕ, _+_, _-_, _*_, _^_, _≤_, _<_}
+use native.Mathlib.Nat.{le-trans, le-of-eq, le-of-lt, le-add-right, le-add-left, mul-assoc, mul-le-mul-right, le-of-mul-le-mul-right, mul-pos}
+use mathlib.Core.Bool.{Bool, true, false, _&&_, _||_, true≢false}
 use lib.Dec.{T, ltb, eqb, ltb→lt, eqb→eq}
 use lib.Pow.{pow-pos}
-use lib.Ieee.{Float, nan, inf, fin, Format, prec, low, up, down, round, add, mul, div, le, fits}
+use lib.Ieee.{Float, nan, inf, fin, Format, low, up, down, round, add, le, fits}
 use lib.Ieee.Fits.{and-l, down-pos, round-fits}
 use lib.Ieee.Exact.{HasValue}
 use lib.Ieee.Order.{transfer, le-of-values, round-mono}
 use lib.Ieee.Scale.{grid, finite, round-val, round-under}
-use Rattle.doubles.proofs.Magnitude.{mag, mag-of, plain, plain-finite, plain-val, round-at, add-at, mul-at}
+use Rattle.doubles.proofs.Magnitude.{mag, mag-of, plain, plain-val, round-at, add-at}
 use Rattle.doubles.proofs.Signs.{clear, round-clear}
 
 -- ---- the order of two values, by their sizes

@@ -1,18 +1,18 @@
 -- `isqrt n` is √n rounded down, and `sqrtOf` is √x rounded to the nearest. Assumes nothing.
-use mathlib.Core.Path.{_≡_, refl, sym, ap, _∙_, subst}
+use mathlib.Core.Path.{_≡_, refl, sym, ap, _∙_}
 use mathlib.Core.Logic.{_⊎_, inl, inr}
-use Prim.Native.Nat.{ℕ, zero, suc, _+_, _-_, _*_, _/_, _%_, _^_, _≤_, _<_, zero-le}
-use native.Mathlib.Nat.{mul-lt-mul-of-pos-left, mul-lt-mul-of-pos-right, suc-mul, mul-suc, eq-or-lt-of-le, le-trans, le-refl, le-of-eq, le-of-lt, le-antisymm, lt-of-lt-of-le, lt-of-le-of-lt, lt-of-not-le, le-of-suc-le-suc, not-le-of-lt, lt-irrefl, zero-lt-suc, mul-one, one-mul, mul-comm, mul-assoc, mul-left-comm, mul-right-comm, mul-mul-mul-comm, add-mul, mul-add, mul-le-mul, mul-le-mul-right, mul-le-mul-left, mul-pos, pow-suc, pow-succ', pow-le-pow-left, div-mul-le-self, div-lt-iff-lt-mul}
+use Prim.Native.Nat.{ℕ, zero, suc, _+_, _-_, _*_, _/_, _^_, _≤_, _<_, zero-le}
+use native.Mathlib.Nat.{mul-lt-mul-of-pos-left, mul-lt-mul-of-pos-right, suc-mul, mul-suc, eq-or-lt-of-le, le-trans, le-of-eq, le-of-lt, lt-of-lt-of-le, lt-of-le-of-lt, lt-of-not-le, le-of-suc-le-suc, lt-irrefl, zero-lt-suc, mul-comm, mul-assoc, mul-left-comm, mul-right-comm, mul-mul-mul-comm, add-mul, mul-le-mul, mul-le-mul-right, mul-le-mul-left, mul-pos, pow-suc, pow-succ', pow-le-pow-left, div-mul-le-self, div-lt-iff-lt-mul}
 use native.Mathlib.Numerals.{add-one}
 use native.Mathlib.Omega.{arith}
 use mathlib.Core.Bool.{Bool, true, false, not, cond}
-use lib.Dec.{T, leb, ltb, eqb, leb→le, nleb→lt, eqb→eq, lit≤, lit<}
-use lib.Pow.{pow-add, pow-pos, pow-mono}
-use lib.Ieee.{Float, nan, inf, fin, Format, prec, emax, low, up, down, size, round, units}
+use lib.Dec.{T, leb, eqb, leb→le, nleb→lt, eqb→eq, lit≤}
+use lib.Pow.{pow-pos}
+use lib.Ieee.{Format, prec, low, size, round, units}
 use lib.Ieee.Digits.{size-lt}
 use lib.Ieee.Fits.{two, two-le-pos}
 use Rattle.doubles.proofs.Rounding.{round-near}
-use Rattle.doubles.specs.Root.{rootBelow, isqrt, roundRoot, sqrtOf}
+use Rattle.doubles.specs.Root.{rootBelow, isqrt, roundRoot}
 
 -- q is √n rounded down
 abbrev pub IsRoot : ℕ → ℕ → Type 0

@@ -1,21 +1,19 @@
 -- How far `round` can be from its fraction: half a unit of the last digit that it keeps. And what a fraction that lies within half a unit of a number is rounded to. Assumes nothing.
-use mathlib.Core.Path.{_≡_, refl, sym, ap, _∙_, subst}
+use mathlib.Core.Path.{_≡_, sym, ap, _∙_, subst}
 use mathlib.Core.Logic.{_⊎_, inl, inr}
 use Prim.Native.Nat.{ℕ, zero, suc, _+_, _-_, _*_, _/_, _%_, _^_, _≤_, _<_, compare, Ordering, Ordering·lt, Ordering·eq, Ordering·gt}
-use native.Mathlib.Nat.{le-trans, le-of-eq, le-antisymm, lt-of-lt-of-le, lt-of-le-of-lt, lt-irrefl, lt-of-not-le, le-of-suc-le-suc, eq-zero-or-pos, mod-lt, div-add-mod', mul-comm, mul-assoc, mul-left-comm, mul-right-comm, add-mul, suc-mul, mul-le-mul-right, mul-le-mul-left, mul-pos, mul-one, one-mul, lt-of-mul-lt-mul-right, div-div-eq-div-mul, le-div-iff-mul-le, div-lt-iff-lt-mul}
+use native.Mathlib.Nat.{le-trans, le-of-eq, le-antisymm, lt-of-lt-of-le, lt-irrefl, lt-of-not-le, le-of-suc-le-suc, eq-zero-or-pos, mod-lt, div-add-mod', mul-comm, mul-assoc, add-mul, suc-mul, mul-le-mul-right, mul-pos, div-div-eq-div-mul, le-div-iff-mul-le, div-lt-iff-lt-mul}
 use native.Mathlib.Omega.{arith}
-use mathlib.Core.Bool.{Bool, true, false, not}
+use mathlib.Core.Bool.{Bool, not}
 use lib.Dec.{T, isLe, isEq, eqb, leb→le, nleb→lt, eqb→eq, eqb-refl}
 use lib.Arith.{lt-of-le-ne}
 use lib.Pow.{pow-add, pow-pos, pow-mono}
-use lib.Ieee.{Float, Format, prec, emax, low, size, nearest, units, round}
+use lib.Ieee.{Format, prec, low, size, nearest, units, round}
 use lib.Ieee.Digits.{size-lt, size-le, size-reaches}
 use lib.Ieee.Fits.{two, two-le-pos, round-is}
-use lib.Ieee.Exact.{HasValue}
 use lib.Ieee.Nearest.{closest, nearest-ge}
 use lib.Ieee.Order.{drop, kept}
-use lib.Ieee.Scale.{grid, overflow, finite, round-val, round-under}
-use Rattle.doubles.proofs.Magnitude.{mag, mag-of}
+use lib.Ieee.Scale.{grid}
 
 -- ---- what `compare` says
 abbrev Cmp : Ordering → ℕ → ℕ → Type 0

@@ -1,17 +1,16 @@
 -- Which values have no sign, or are not negative, and that sums, products, quotients and roots of such values are such values. Assumes nothing.
 use mathlib.Core.Path.{_≡_, refl, sym, ap, _∙_, subst}
-use Prim.Native.Nat.{ℕ, zero, suc, _+_, _-_, _*_, _/_, _%_, _^_, _≤_, _<_, zero-le}
-use native.Mathlib.Nat.{zero-mul, zero-add, mul-pos, mul-zero, sub-zero, lt-irrefl, lt-of-lt-of-le, le-of-eq, lt-of-le-of-lt, zero-lt-suc, mul-comm}
+use Prim.Native.Nat.{ℕ, zero, suc, _+_, _-_, _*_, _^_, _≤_, _<_, zero-le}
+use native.Mathlib.Nat.{zero-mul, mul-pos, lt-irrefl, lt-of-lt-of-le, le-of-eq, lt-of-le-of-lt, zero-lt-suc, mul-comm}
 use native.Mathlib.Omega.{arith}
-use mathlib.Core.Bool.{Bool, true, false, not, _&&_, _||_, Bool·beq, cond}
+use mathlib.Core.Bool.{Bool, true, false, not, cond}
 use lib.Arith.{le→nltb}
-use lib.IntN.{ℤ, pos, negsuc}
+use lib.IntN.{ℤ, pos}
 use lib.Dec.{T, ltb, eqb, ltb→lt, nltb→le, eqb→eq}
-use lib.Ieee.{Float, nan, inf, fin, Format, prec, emax, low, up, down, unlike, odd, units, round, sum, add, mul, div, lt, fits}
+use lib.Ieee.{Float, nan, inf, fin, Format, prec, emax, low, up, down, odd, units, round, sum, add, mul, div, lt, fits}
 use lib.Ieee.Fits.{round-is, down-pos, up-pos}
-use lib.Ieee.Exact.{HasValue}
 use Rattle.doubles.proofs.Magnitude.{round-at}
-use Rattle.doubles.specs.Root.{sqrtOf, roundRoot, isqrt}
+use Rattle.doubles.specs.Root.{sqrtOf}
 
 -- a NaN, or the sign is clear: so it is no -0
 abbrev pub clear : Float → Bool

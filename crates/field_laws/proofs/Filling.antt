@@ -1,9 +1,9 @@
 -- Filling places of a store: twice is once, and a place stays filled where another is filled. Assumes nothing.
-use Prim.Native.Nat.{ℕ, suc, _+_, _-_, _*_, _/_, _≤_, _<_}
+use Prim.Native.Nat.{ℕ, suc, _-_, _*_, _/_, _≤_, _<_}
 use mathlib.Core.Path.{_≡_, refl, sym, ap, _∙_}
 use mathlib.Core.Bool.{Bool, true, false, _&&_, _||_, not, cond}
 use mathlib.Core.List.{List}
-use native.Mathlib.Nat.{div-lt-iff-lt-mul, mul-le-mul-right}
+use native.Mathlib.Nat.{div-lt-iff-lt-mul}
 use native.Mathlib.Omega.{arith}
 use borrow.Author.Tests.{leb-true, ltb-true}
 use lib.Dec.{leb, ltb}
@@ -12,7 +12,7 @@ use lib.ListN.{length, getD}
 use Rattle.layout.specs.declared.Layout.{Layout}
 use Rattle.layout.specs.Channels.{activeNames, activeCount}
 use Rattle.layout.specs.Topology.{topologyOf}
-use Rattle.field.specs.Patched.{patched, either}
+use Rattle.field.specs.Patched.{either}
 use Rattle.field.specs.Place.{placeNumber, rowOfZ, rowWritten, placeStart, filledFrom, filled}
 use Rattle.field.proofs.Patching.{patched-length, getD-patched, is-patched, patched-both, patched-where}
 use Rattle.field.proofs.PlaceRows.{both-left, both-right}

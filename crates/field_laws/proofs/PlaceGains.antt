@@ -5,8 +5,8 @@ use mathlib.Core.Bool.{Bool, true, false, _&&_, _||_, not, cond}
 use mathlib.Core.List.{List, [], _∷_, _++_, map}
 use native.Mathlib.Nat.{mul-le-mul-right, sub-zero}
 use native.Mathlib.Omega.{arith}
-use borrow.Author.Tests.{le-leb, lt-leb, lt-ltb, le-ltb, ltb-true, ltb-false}
-use lib.Dec.{T, leb, ltb, eqb}
+use borrow.Author.Tests.{le-leb, lt-leb, lt-ltb, le-ltb, ltb-true}
+use lib.Dec.{T, leb, ltb}
 use lib.Ieee.{Float, nan, binary64, fits, lt, eq}
 use lib.ListN.{length, getD, take, drop, List·getD-append}
 use lib.Seq.{length-take-le, getD-take}
@@ -22,7 +22,7 @@ use Rattle.gains.specs.declared.Centre.{Centre}
 use Rattle.gains.specs.declared.Wall.{Wall}
 use Rattle.gains.specs.declared.Wall.the-variants.{X, Y, Z}
 use Rattle.field.specs.Knots as knots
-use Rattle.gains.specs.Lookup.{listed, centreKnots, radiusKnots, bracketOf, channels}
+use Rattle.gains.specs.Lookup.{listed, centreKnots, radiusKnots, bracketOf}
 use Rattle.gains.specs.Walls.{distanceOf, nearerOf, wallX, wallY, nearestWall}
 use Rattle.gains.specs.Diffuse.{Rows, responseX, responseY, responseZ, weightOf, ended, endProduct, compensatedOf, diffuseOf}
 use Rattle.extent.specs.Kernel.{exponentOf}

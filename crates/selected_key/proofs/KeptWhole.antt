@@ -17,7 +17,7 @@ use Rattle.keys.specs.Keys.{twoParts, topologyParts, flagNumber, keyWords, Pack
 use Rattle.keys.proofs.KeyReads.{Reads, key-reads}
 use Rattle.keys.proofs.KeyWhole.{names, flags, layerCounts, rowCounts, anchorNames, zs, ys, xs, parts-long, eight-joined, channels-written, key-written}
 use Rattle.selection.specs.Select.{picked, isPositive, keptLayout}
-use Rattle.selection.proofs.KeptAccepted.{few-layers, kept-sized}
+use Rattle.selection.proofs.KeptAccepted.{kept-sized}
 use Rattle.selected_key.specs.Kept.{countsOf, pickedParts}
 use Rattle.selected_key.proofs.KeptKey.{rows-counted, layers-number, topology-picked}
 

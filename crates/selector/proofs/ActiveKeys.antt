@@ -1,6 +1,6 @@
 -- How many channels of a key are active: the loop that counts them, and that it is n of the layout.
 use Prim.Native.Nat.{ℕ, _+_, _*_, _<_, _≤_, min}
-use mathlib.Core.Path.{_≡_, refl, sym, ap, ap₂, _∙_}
+use mathlib.Core.Path.{_≡_, refl, sym, ap, _∙_}
 use mathlib.Core.Bool.{Bool, true, false, _&&_, not, cond}
 use mathlib.Core.List.{List, [], _∷_, map}
 use native.Mathlib.Omega.{arith}

@@ -2,31 +2,28 @@
 use Prim.Native.Nat.{ℕ, zero, suc, _+_, _%_, _≤_, _<_}
 use mathlib.Core.Path.{_≡_, refl, sym, ap, ap₂, _∙_, subst}
 use mathlib.Core.Bool.{Bool, true, false, _&&_, _||_, not, cond}
-use mathlib.Core.List.{List, [], _∷_, _++_, map}
+use mathlib.Core.List.{List, [], _∷_, _++_}
 use mathlib.Core.Logic.{⊎-elim}
 use native.Mathlib.Omega.{arith}
-use borrow.Author.Tests.{ltb-true, ltb-false, lt-ltb, le-ltb, eqb-true, eqb-false, eq-eqb}
-use lib.Dec.{T, eqb, ltb}
+use borrow.Author.Tests.{ltb-true, ltb-false, eqb-true, eqb-false, eq-eqb}
+use lib.Dec.{eqb, ltb}
 use lib.Ieee.{Float}
 use lib.Ieee.Fits.{and-l, and-r}
 use lib.ListN.{length, getD, take, drop}
 use Rattle.lists.specs.Lists.{all, any}
 use Rattle.layout.specs.declared.Layout.{Layout}
 use Rattle.layout.specs.Same.{sameLayout}
-use Rattle.layout.specs.Questions.{firstNo}
-use Rattle.layout.proofs.SameLaws.{same-sym}
 use Rattle.extent.specs.Extent.{meanOf}
 use Rattle.field.specs.Place.{filled}
-use Rattle.field.proofs.PlaceNumbers.{filled-length}
 use Rattle.field_laws.proofs.SamePlaces.{same-filled}
 use Rattle.selector.specs.declared.Word.{Word}
 use Rattle.selector.specs.declared.Word.the-variants.{Unused, Kept, Built}
 use Rattle.keys.specs.Keys.{keyWords, keyAt, withKey}
-use Rattle.selector.specs.Call.{Call, Found, Answer, isGain, answered, argumentQuestions, callQuestions, placeOfKey, selectedOf, wanted, keyOf, gainsBy, newPlace, built, refusedBy, acceptedWith, served, answerOf}
+use Rattle.selector.specs.Call.{Call, Found, Answer, isGain, answered, placeOfKey, selectedOf, wanted, keyOf, gainsBy, built, refusedBy, acceptedWith, served, answerOf}
 use Rattle.selector_law.specs.Rule.{Key, packedKey, sameKey, callKey, KeptList, none, refusalBy, isHeld, leaves, isFull, withNew, afterCall, storeAfter, wordsAfter, wordBy, fresh, Typed, Right}
 use Rattle.selector_law.proofs.KeyLaws.{Sound, key-same, same-key, find-place, find-where, find-none}
 use Rattle.selector.proofs.Questions.{asked-alone, Said, said}
-use Rattle.selector_law.proofs.Held.{noKey, Has, Holds, fresh-holds, asks-14, holds-keys, grown-holds, turned-holds}
+use Rattle.selector_law.proofs.Held.{noKey, Holds, fresh-holds, asks-14, holds-keys, grown-holds, turned-holds}
 use Rattle.selector_law.proofs.Serving.{yes, true-of, selected-sound, store-big, served-field, served-point, served-bounded, point-served-bounded}
 
 -- ---- a key among keys

@@ -1,27 +1,18 @@
 -- What a selector holds: for each key of the kept list, its numbers and its field, in the key's place. Assumes nothing.
 use Prim.Native.Nat.{ℕ, _+_, _%_, _≤_, _<_}
-use mathlib.Core.Path.{_≡_, refl, sym, ap, _∙_, subst}
-use mathlib.Core.Bool.{Bool, true, false, _&&_, _||_, cond}
+use mathlib.Core.Path.{_≡_, refl, sym, ap, _∙_}
+use mathlib.Core.Bool.{true}
 use mathlib.Core.List.{List, [], _∷_, _++_, map}
 use native.Mathlib.Omega.{arith}
-use borrow.Author.Tests.{le-leb, lt-ltb, le-ltb, eq-eqb, ne-eqb, ltb-true, ltb-false}
-use lib.Dec.{T, eqb, leb, ltb, eqb→eq, eqb-refl}
-use lib.Ieee.{Float, binary64, fits}
+use borrow.Author.Tests.{le-leb, lt-ltb}
+use lib.Ieee.{Float}
 use lib.ListN.{length, getD, drop, length-append, length-drop}
-use Rattle.layout.specs.declared.Layout.{Layout}
-use Rattle.layout.specs.Accepted.{Accepted}
 use Rattle.layout.specs.Build.{emptyLayout}
-use Rattle.layout.specs.Questions.{firstNo, layoutQuestions}
-use Rattle.layout.specs.Same.{sameLayout}
-use Rattle.layout.proofs.Sizes.{Sized}
 use Rattle.field.specs.Place.{filled}
-use Rattle.field.proofs.PlaceNumbers.{filled-length}
 use Rattle.field_laws.proofs.Filling.{fill-twice, fill-other}
-use Rattle.field_laws.proofs.SameTopologies.{Doubles}
-use Rattle.field_laws.proofs.SamePlaces.{same-filled}
-use Rattle.keys.specs.Keys.{keyWords, keyAt, withKey, upTo}
-use Rattle.selector.specs.Call.{Call, Found, question14, newPlace}
-use Rattle.selector_law.specs.Rule.{Key, packedKey, sameKey, KeptList, heldKeys, none, fresh}
+use Rattle.keys.specs.Keys.{keyAt, withKey}
+use Rattle.selector.specs.Call.{Found, question14}
+use Rattle.selector_law.specs.Rule.{Key, packedKey, KeptList, heldKeys, none, fresh}
 use Rattle.selector_law.proofs.Places.{grown, turned, listed-up}
 use Rattle.selector_law.proofs.KeyLaws.{Sound, key-length, with-length, with-here, with-other}
 

@@ -5,7 +5,7 @@ use mathlib.Core.Logic.{⊎-elim}
 use mathlib.Core.List.{List, [], _∷_, _++_, map}
 use native.Mathlib.Nat.{eq-or-lt-of-le}
 use native.Mathlib.Omega.{arith}
-use lib.ListN.{length, getD, take, drop, length-append, length-drop, length-map, length-take, List·getD-append}
+use lib.ListN.{length, getD, drop, length-append, length-drop, length-map, length-take, List·getD-append}
 use lib.Seq.{getD-at, getD-drop, getD-take, ext-getD}
 use Rattle.keys.specs.Keys.{upTo}
 

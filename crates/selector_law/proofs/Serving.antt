@@ -1,12 +1,12 @@
 -- The gains of an accepted call: whichever place serves it, they are those of the selected layout's field. Assumes nothing.
-use Prim.Native.Nat.{ℕ, zero, suc, _+_, _≤_, _<_}
+use Prim.Native.Nat.{ℕ, zero, suc, _≤_, _<_}
 use mathlib.Core.Path.{_≡_, refl, sym, ap, _∙_, subst}
 use mathlib.Core.Bool.{Bool, true, false, _&&_, cond}
-use mathlib.Core.List.{List, [], _∷_, map}
+use mathlib.Core.List.{List, [], _∷_}
 use native.Mathlib.Omega.{arith}
 use borrow.Author.Tests.{leb-true, eqb-true, le-leb, lt-ltb}
 use lib.Dec.{T, eqb, leb, ltb}
-use lib.Ieee.{Float, nan, binary64, fits, le, lt, eq, round}
+use lib.Ieee.{Float, nan, binary64, fits, le, round}
 use lib.Ieee.Fits.{and-l, and-r}
 use lib.Ieee.Scale.{finite}
 use lib.ListN.{length, getD, take, length-take}
@@ -15,10 +15,8 @@ use Rattle.doubles.specs.Arithmetic.{zero as zero64, dec}
 use Rattle.doubles.specs.Norm.{fiveQuarters, Bounded}
 use Rattle.doubles.specs.Range.{between}
 use Rattle.lists.specs.Lists.{all}
-use Rattle.layout.specs.declared.Layout.{Layout}
 use Rattle.layout.specs.Channels.{activeCount}
 use Rattle.layout.specs.Topology.{topologyOf}
-use Rattle.layout.specs.Questions.{firstNo, layoutQuestions}
 use Rattle.layout.proofs.Sizes.{Sized}
 use Rattle.layout.proofs.TopologyFlat.{topology-length}
 use Rattle.extent.specs.Extent.{meanOf, meanRadius}

@@ -3,7 +3,7 @@ use Prim.Native.Nat.{ℕ, _+_, _%_}
 use mathlib.Core.Path.{_≡_}
 use mathlib.Core.Bool.{Bool, true, _&&_, _||_, not, cond}
 use mathlib.Core.List.{List, [], _∷_, _++_, map}
-use lib.Dec.{T, eqb, ltb}
+use lib.Dec.{T, eqb}
 use lib.Ieee.{Float, binary64, fits}
 use lib.Ieee.Scale.{finite}
 use lib.ListN.{length, take, drop, replicate}

@@ -1,9 +1,7 @@
 -- `cases::cases_hold` meets its contract: the table is computed. Assumes nothing.
-use mathlib.Core.Path.{_≡_, refl}
-use mathlib.Core.Bool.{true}
+use mathlib.Core.Path.{refl}
 use lib.Ieee.{add, sub, mul, div, sum, lt, le, eq, ofInt, round, toSigned, toUnsigned, toBits}
-use Rattle.lists.specs.Lists.{all}
-use Rattle.cases.specs.Cases.{cases, holds}
+use Rattle.cases.specs.Cases.{cases}
 use Rattle.cases.proofs.cases_hold.Statement.{statement}
 use Rattle.cases.proofs.cases_hold.Tie as tie
 

@@ -1,8 +1,8 @@
 -- Which values and patterns are NaN, as the code tests it. Assumes nothing.
 use mathlib.Core.Path.{_≡_, refl, sym, ap, _∙_, subst}
-use Prim.Native.Nat.{ℕ, _*_, _%_, _^_, _≤_, _<_}
+use Prim.Native.Nat.{ℕ, _%_, _^_, _≤_, _<_}
 use mathlib.Core.Bool.{Bool, true, false, not}
-use lib.Dec.{T, ltb, lt→ltb}
+use lib.Dec.{T, lt→ltb}
 use lib.Arith.{le→nltb}
 use lib.Ieee.{Float, nan, inf, fin, binary64, isNan, ne, div, ofBits, nanBits, toBits}
 use lib.Ieee.Bits.{nanBits-is, nanBits-above}

@@ -1,6 +1,6 @@
 -- What the proofs of `sine` and `cosine` cite: the series from one entry of the list on, and that the entries are doubles. Assumes nothing.
 use mathlib.Core.Path.{_≡_, refl, ap, _∙_}
-use mathlib.Core.Bool.{Bool, true, false, _&&_, cond}
+use mathlib.Core.Bool.{Bool, true, false, cond}
 use mathlib.Core.List.{List, [], _∷_}
 use Prim.Native.Nat.{ℕ, zero, suc, _-_, _^_, _≤_, _<_, zero-le}
 use native.Mathlib.Omega.{arith}

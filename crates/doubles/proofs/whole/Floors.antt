@@ -1,18 +1,16 @@
 -- What the proof of `floor_any` cites: the floor of an `f64` below 2 ^ 53 in size from its whole part, and that from there up it is whole. Assumes nothing.
 use mathlib.Core.Path.{_≡_, refl, sym, ap, _∙_, subst}
-use Prim.Native.Nat.{ℕ, zero, suc, _+_, _-_, _*_, _/_, _%_, _^_, _≤_, _<_, min, zero-le}
-use native.Mathlib.Nat.{le-trans, le-of-eq, le-of-lt, le-antisymm, le-refl, lt-of-lt-of-le, lt-of-le-of-lt, lt-irrefl, zero-lt-suc, zero-mul, mul-one, one-mul, add-zero, add-mul, mul-comm, mul-right-comm, mul-pos, mul-lt-mul-of-pos-right, mul-le-mul-right, lt-of-mul-lt-mul-right, le-of-mul-le-mul-right, div-one, div-lt-iff-lt-mul, div-mul-le-self, lt-div-mul-add, div-eq-of-lt-le, le-mul-of-pos-right}
-use native.Mathlib.Numerals.{add-one}
+use Prim.Native.Nat.{ℕ, zero, suc, _+_, _-_, _*_, _/_, _^_, _≤_, _<_, min, zero-le}
+use native.Mathlib.Nat.{le-trans, le-of-eq, le-of-lt, lt-of-lt-of-le, lt-of-le-of-lt, lt-irrefl, zero-lt-suc, zero-mul, mul-one, one-mul, add-zero, add-mul, mul-right-comm, mul-pos, mul-le-mul-right, lt-of-mul-lt-mul-right, le-of-mul-le-mul-right, div-one, div-lt-iff-lt-mul, div-mul-le-self, lt-div-mul-add, div-eq-of-lt-le, le-mul-of-pos-right}
 use native.Mathlib.Omega.{arith}
-use mathlib.Core.Bool.{Bool, true, false, not, _&&_, cond, true≢false}
+use mathlib.Core.Bool.{Bool, true, false, not, true≢false}
 use lib.IntN.{ℤ, pos, negsuc}
-use lib.Dec.{T, leb, ltb, eqb, ltb→lt, lt→ltb, nltb→le, le→leb, lit≤}
+use lib.Dec.{T, ltb, ltb→lt, lt→ltb, nltb→le, le→leb, lit≤}
 use lib.Pow.{pow-pos}
-use lib.Ieee.{Float, nan, inf, fin, binary64, up, down, round, neg, lt, fits, ofInt, toUnsigned, inFloat, ofBits}
-use lib.Ieee.Fits.{down-pos, up-pos}
+use lib.Ieee.{Float, nan, inf, fin, binary64, up, down, round, neg, lt, fits, ofInt, toUnsigned, inFloat}
+use lib.Ieee.Fits.{down-pos}
 use lib.Ieee.Exact.{HasValue}
 use lib.Ieee.Back.{round-whole}
-use lib.Ieee.Scale.{finite}
 use Rattle.doubles.specs.Arithmetic as arithmetic
 use Rattle.doubles.specs.Floor.{floorOf}
 use Rattle.doubles.proofs.Magnitude.{small-enough, round-self, same-value}

@@ -5,8 +5,8 @@ use native.Mathlib.Nat.{le-div-iff-mul-le, div-lt-iff-lt-mul}
 use native.Mathlib.Omega.{arith}
 use mathlib.Core.Bool.{Bool, true, false, _&&_, _||_}
 use lib.IntN.{ℤ, pos}
-use lib.Dec.{T, ltb, eqb, lt→ltb, nltb→le, eqb→eq, ltb→lt, lit≤}
-use lib.Ieee.{Float, nan, inf, fin, binary64, up, down, lt, le, eq, round, ofInt, toUnsigned}
+use lib.Dec.{T, ltb, eqb, lt→ltb, nltb→le, eqb→eq, ltb→lt}
+use lib.Ieee.{Float, nan, inf, fin, binary64, up, down, lt, le, eq, ofInt, toUnsigned}
 use lib.Ieee.Back.{unsigned-back}
 use lib.Ieee.Fits.{down-pos, and-l, and-r}
 use Rattle.doubles.specs.Arithmetic.{zero}

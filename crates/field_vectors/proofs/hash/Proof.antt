@@ -1,7 +1,6 @@
 -- `field_vectors::hash` is safe and ends. Assumes nothing.
 use Prim.Native.Nat.{_≤_, _-_}
 use borrow.Author.Needs.{needs}
-use lib.ListN.{length}
 use Rattle.field_vectors.proofs.hash.Statement.{statement}
 use Rattle.field_vectors.proofs.hash.Tie as tie
 

@@ -1,9 +1,6 @@
 -- `field_vectors::lines_of` is safe and ends. Assumes nothing.
 use Prim.Native.Nat.{_≤_, _-_}
-use mathlib.Core.Path.{_≡_}
-use native.Mathlib.Omega.{arith}
 use borrow.Author.Needs.{needs}
-use lib.ListN.{length, length-set}
 use Rattle.field_vectors.proofs.lines_of.Statement.{statement}
 use Rattle.field_vectors.proofs.lines_of.Tie as tie
 

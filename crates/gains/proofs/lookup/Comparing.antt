@@ -1,5 +1,5 @@
 -- The order of doubles, some of them finite with a clear sign. Assumes nothing.
-use Prim.Native.Nat.{ℕ, _+_, _*_, _<_}
+use Prim.Native.Nat.{ℕ, _*_, _<_}
 use mathlib.Core.Path.{_≡_, refl, sym, ap, _∙_}
 use mathlib.Core.Bool.{Bool, true, false, not, _||_, _&&_, true≢false}
 use native.Mathlib.Nat.{le-of-eq, lt-trans, lt-of-le-of-lt, lt-of-lt-of-le, mul-right-comm, mul-lt-mul-of-pos-right, lt-of-mul-lt-mul-right}

@@ -1,11 +1,10 @@
 -- What questions 7 to 10 leave. Assumes nothing.
 use Prim.Native.Nat.{ℕ, _≤_}
-use mathlib.Core.Path.{_≡_, refl, sym, ap, ap₂, _∙_, subst}
+use mathlib.Core.Path.{_≡_, refl, sym, ap, _∙_}
 use mathlib.Core.Bool.{Bool, true, false, cond, true≢false, false≢true}
 use mathlib.Core.List.{List, [], _∷_, _++_}
 use native.Mathlib.Omega.{arith}
-use borrow.Author.Tests.{le-ltb, eq-eqb}
-use lib.Dec.{eqb, ltb}
+use borrow.Author.Tests.{le-ltb}
 use lib.Ieee.{Float}
 use lib.ListN.{take, getD}
 use Rattle.layout.specs.declared.Layout.{Layout}

@@ -1,11 +1,11 @@
 -- What each way through the call leaves is what its definition says. Assumes nothing.
 use Prim.Native.Nat.{ℕ, _+_, _%_, _≤_, _<_}
 use mathlib.Core.Path.{_≡_, refl, sym, ap, ap₂, _∙_, subst}
-use mathlib.Core.Bool.{Bool, true, false, _&&_, cond}
+use mathlib.Core.Bool.{Bool, true, false, cond}
 use mathlib.Core.List.{List}
 use native.Mathlib.Omega.{arith}
 use borrow.Author.Tests.{le-leb, lt-ltb, le-ltb, eq-eqb, ne-eqb}
-use lib.Dec.{eqb, leb, ltb}
+use lib.Dec.{ltb}
 use lib.Ieee.{Float}
 use lib.ListN.{length}
 use Rattle.layout.specs.declared.Layout.{Layout}
@@ -13,8 +13,7 @@ use Rattle.layout.specs.Questions.{firstNo, layoutQuestions}
 use Rattle.field.specs.Place.{filled, fillable}
 use Rattle.gains.specs.declared.Centre.{Centre}
 use Rattle.gains.specs.Gains.{projected}
-use Rattle.selector.specs.declared.Outcome.{Outcome}
-use Rattle.selector.specs.declared.Outcome.the-variants.{Refused, Gains}
+use Rattle.selector.specs.declared.Outcome.the-variants.{Gains}
 use Rattle.selector.specs.declared.Reply.{Reply}
 use Rattle.selector.specs.declared.Ring.{Ring}
 use Rattle.selector.specs.declared.Word.the-variants.{Unused, Kept, Built}

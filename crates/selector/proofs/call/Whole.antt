@@ -1,10 +1,10 @@
 -- The whole call: fourteen questions, and then the gains. Assumes nothing.
 use Prim.Native.Nat.{ℕ, _≤_, _<_}
 use mathlib.Core.Path.{_≡_, refl, sym, ap, ap₂, _∙_, subst}
-use mathlib.Core.Bool.{Bool, true, false, cond}
+use mathlib.Core.Bool.{Bool, true, cond}
 use mathlib.Core.List.{List, [], _∷_, _++_, map, append-assoc}
 use native.Mathlib.Omega.{arith}
-use borrow.Author.Tests.{leb-true, ltb-true, eq-eqb, ne-eqb, le-ltb}
+use borrow.Author.Tests.{leb-true, ltb-true, ne-eqb, le-ltb}
 use lib.Dec.{eqb, leb, ltb}
 use lib.Ieee.{Float}
 use lib.ListN.{length, getD, take}
@@ -27,7 +27,6 @@ use Rattle.selection.proofs.Selections.{selected-channels, selected-used, selec
 use Rattle.keys.specs.Keys.{keyWords, placesOver, PackedAs}
 use Rattle.keys.proofs.KeyReads.{key-reads}
 use Rattle.keys.proofs.KeyPlaces.{packed-as}
-use Rattle.selector.specs.declared.Outcome.{Outcome}
 use Rattle.selector.specs.declared.Outcome.the-variants.{Refused, Gains}
 use Rattle.selector.specs.declared.Reply.{Reply}
 use Rattle.selector.specs.declared.Ring.{Ring}

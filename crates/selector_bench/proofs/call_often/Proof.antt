@@ -1,5 +1,5 @@
 -- As many point gains as are lent. Assumes nothing.
-use mathlib.Core.Path.{_≡_, sym}
+use mathlib.Core.Path.{sym}
 use borrow.Author.Needs.{needs}
 use lib.Seq.{length-take-le}
 use Rattle.selector_bench.proofs.call_often.Statement.{statement}

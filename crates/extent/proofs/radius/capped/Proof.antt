@@ -1,6 +1,5 @@
 -- `extent::radius::capped` meets its contract, by the cases of `proofs/radius/Cut.antt`. Assumes nothing.
-use mathlib.Core.Path.{_≡_, sym, _∙_}
-use borrow.Author.Needs.{needs}
+use mathlib.Core.Path.{sym, _∙_}
 use lib.Ieee.{ofBits}
 use Rattle.extent.proofs.radius.Cut.{cut-top, cut-asks, cut-same, cut-zero}
 use Rattle.extent.proofs.radius.capped.Statement.{statement}

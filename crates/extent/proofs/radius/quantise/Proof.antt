@@ -1,5 +1,5 @@
 -- `extent::radius::quantise` meets its contract, by the cases of `proofs/radius/Cut.antt`. Assumes nothing.
-use mathlib.Core.Path.{_≡_, refl, sym, ap, _∙_}
+use mathlib.Core.Path.{_≡_, refl, ap, _∙_}
 use borrow.Author.Needs.{needs}
 use lib.Dec.{T}
 use lib.Ieee.{Float, binary64, add, mul, ofBits, round, ofInt}

@@ -5,7 +5,6 @@ use mathlib.Core.Bool.{Bool, true, false, _||_}
 use borrow.Author.Needs.{needs}
 use borrow.Author.Tests.{eqb-true, ne-eqb}
 use lib.Dec.{T, eqb}
-use lib.Ieee.{Float}
 use Rattle.field.specs.Knots.{steps}
 use Rattle.gains.proofs.knot_tables.centre_knot.Statement.{statement}
 use Rattle.gains.proofs.knot_tables.centre_knot.Tie as tie

@@ -1,5 +1,5 @@
 -- `gains::lookup::bracket` meets its contract, by the cases of `proofs/lookup/Cases.antt`. Assumes nothing.
-use Prim.Native.Nat.{_+_, _-_, _≤_}
+use Prim.Native.Nat.{_-_, _≤_}
 use mathlib.Core.Path.{_≡_, sym, ap, _∙_}
 use mathlib.Core.Bool.{true, false}
 use native.Mathlib.Omega.{arith}

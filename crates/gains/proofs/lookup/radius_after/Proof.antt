@@ -1,7 +1,6 @@
 -- `gains::lookup::radius_after` meets its contract. Assumes nothing.
 use Prim.Native.Nat.{_+_, _-_}
 use mathlib.Core.Path.{_≡_}
-use mathlib.Core.Bool.{true}
 use native.Mathlib.Omega.{arith}
 use borrow.Author.Needs.{needs}
 use borrow.Author.Tests.{not-true}

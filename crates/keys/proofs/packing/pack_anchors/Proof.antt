@@ -1,11 +1,10 @@
 -- The names and x of the first i anchors are written.
-use Prim.Native.Nat.{_-_, _+_, _<_, _≤_}
+use Prim.Native.Nat.{_-_, _≤_}
 use mathlib.Core.Path.{_≡_, refl, sym, _∙_}
 use mathlib.Core.List.{map}
-use native.Mathlib.Numerals.{add-one}
 use native.Mathlib.Omega.{arith}
 use borrow.Author.Needs.{needs}
-use lib.ListN.{length, getD, length-map, length-set, List·getD-map}
+use lib.ListN.{length, length-map, length-set, List·getD-map}
 use Rattle.lists.proofs.Loops.{long}
 use Rattle.layout.specs.Topology.{anchorName, anchorX, noAnchor}
 use Rattle.keys.specs.Keys.{xPattern}

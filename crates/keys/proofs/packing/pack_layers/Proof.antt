@@ -1,5 +1,5 @@
 -- The counts and z of the first i layers are written, and rows is where the next layer's rows begin.
-use Prim.Native.Nat.{_-_, _+_, _<_, _≤_}
+use Prim.Native.Nat.{_-_, _<_, _≤_}
 use mathlib.Core.Path.{_≡_, refl, sym, _∙_}
 use mathlib.Core.List.{map}
 use native.Mathlib.Numerals.{add-one}

@@ -1,5 +1,5 @@
 -- The counts and y of the first i rows are written, and anchors is where the next row's anchors begin.
-use Prim.Native.Nat.{_-_, _+_, _<_, _≤_}
+use Prim.Native.Nat.{_-_, _<_, _≤_}
 use mathlib.Core.Path.{_≡_, refl, sym, _∙_}
 use mathlib.Core.List.{map}
 use native.Mathlib.Numerals.{add-one}

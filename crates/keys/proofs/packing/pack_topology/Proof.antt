@@ -1,6 +1,6 @@
 -- Three calls; each writes its two parts of the key and its coordinates.
-use Prim.Native.Nat.{_≤_, min}
-use mathlib.Core.Path.{_≡_, sym, _∙_}
+use Prim.Native.Nat.{min}
+use mathlib.Core.Path.{_≡_, _∙_}
 use mathlib.Core.List.{map}
 use native.Mathlib.Omega.{arith}
 use borrow.Author.Needs.{needs}
@@ -11,7 +11,6 @@ use Rattle.layout.specs.declared.Layout.{Layout}
 use Rattle.layout.specs.Topology.{usedLayers, usedRows, usedAnchors, layerCount, rowCount, startsFrom}
 use Rattle.layout.proofs.Sizes.{Sized, rows-fit, anchors-fit}
 use Rattle.layout.proofs.StartsFrom.{starts-used}
-use Rattle.layout.proofs.TopologyLists.{take-taken}
 use Rattle.keys.specs.Keys.{topologyParts, placesOver}
 use Rattle.keys.proofs.packing.pack_topology.Statement.{statement}
 use Rattle.keys.proofs.packing.pack_topology.Tie as tie

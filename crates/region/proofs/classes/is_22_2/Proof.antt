@@ -1,6 +1,6 @@
 -- Whether one of the channels that are left is FLc is whether one of all is.
 use Prim.Native.Nat.{_≤_, _-_, min}
-use mathlib.Core.Path.{_≡_, sym, ap, _∙_}
+use mathlib.Core.Path.{_≡_, sym, _∙_}
 use native.Mathlib.Omega.{arith}
 use borrow.Author.Needs.{needs}
 use lib.ListN.{length}

@@ -1,6 +1,6 @@
 -- The reply and the words, as one selector.
 use Prim.Native.Nat.{ℕ}
-use mathlib.Core.Path.{_≡_, ap₂}
+use mathlib.Core.Path.{ap₂}
 use mathlib.Core.List.{List}
 use borrow.Author.Needs.{needs}
 use Rattle.selector.specs.declared.Replied.{Replied}

@@ -1,5 +1,4 @@
 -- By what the extent is read as.
-use mathlib.Core.Path.{_≡_}
 use borrow.Author.Needs.{needs}
 use Rattle.selector.proofs.asked.Chosen.{refused-extent, read-extent}
 use Rattle.selector.proofs.asked.plan.Statement.{statement}

@@ -1,6 +1,6 @@
 -- 0 by its pattern.
 use Prim.Native.Nat.{ℕ}
-use mathlib.Core.Path.{_≡_, ap}
+use mathlib.Core.Path.{ap}
 use lib.Ieee.{ofBits}
 use Rattle.doubles.specs.Arithmetic.{zero}
 use Rattle.region.specs.declared.RegionSemanticState.{RegionSemanticState}

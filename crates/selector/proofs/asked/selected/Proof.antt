@@ -1,5 +1,4 @@
 -- By what the flags are read as.
-use mathlib.Core.Path.{_≡_}
 use borrow.Author.Needs.{needs}
 use Rattle.selector.proofs.asked.Chosen.{refused-flags, selected-flags}
 use Rattle.selector.proofs.asked.selected.Statement.{statement}

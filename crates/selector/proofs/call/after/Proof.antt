@@ -1,10 +1,9 @@
 -- By whether there is room.
-use Prim.Native.Nat.{ℕ, _+_, _%_, _≤_, _<_}
+use Prim.Native.Nat.{_+_, _%_, _≤_, _<_}
 use mathlib.Core.Path.{_≡_, sym, ap}
 use mathlib.Core.Bool.{Bool, cond}
 use borrow.Author.Needs.{needs}
 use borrow.Author.Tests.{lt-ltb, le-ltb}
-use lib.Dec.{ltb}
 use Rattle.selector.specs.declared.Ring.{Ring}
 use Rattle.selector.specs.Steps.{ringAfter}
 use Rattle.selector.proofs.call.after.Statement.{statement}

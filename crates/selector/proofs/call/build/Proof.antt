@@ -1,5 +1,4 @@
 -- The new field, its numbers, and the gains by it.
-use mathlib.Core.Path.{_≡_}
 use borrow.Author.Needs.{needs}
 use Rattle.selector.proofs.call.Answers.{built-leaves}
 use Rattle.selector.proofs.call.build.Statement.{statement}

@@ -1,10 +1,10 @@
 -- The layout that is built is the selected one.
 use Prim.Native.Nat.{_+_, _%_}
-use mathlib.Core.Path.{_≡_, sym, ap, _∙_}
+use mathlib.Core.Path.{_≡_, ap, _∙_}
 use mathlib.Core.Bool.{Bool, cond}
 use borrow.Author.Needs.{needs}
 use borrow.Author.Tests.{eq-eqb}
-use lib.Dec.{eqb, ltb}
+use lib.Dec.{ltb}
 use Rattle.layout.specs.declared.Layout.{Layout}
 use Rattle.layout.specs.Questions.{firstNo, layoutQuestions}
 use Rattle.field.specs.Place.{filled}

@@ -1,5 +1,4 @@
 -- The three answers together.
-use mathlib.Core.Path.{_≡_}
 use borrow.Author.Needs.{needs}
 use Rattle.selector.proofs.call.is_located.Statement.{statement}
 use Rattle.selector.proofs.call.is_located.Tie as tie

@@ -1,13 +1,13 @@
 -- Each answer is found after a "yes" to those before it.
 use mathlib.Core.Path.{_≡_, sym, ap, ap₂, _∙_}
-use mathlib.Core.Bool.{Bool, true, false, _&&_}
+use mathlib.Core.Bool.{Bool, true, _&&_}
 use borrow.Author.Needs.{needs}
 use borrow.Author.Tests.{not-true, not-false, eq-eqb, ne-eqb}
 use lib.Dec.{eqb}
 use lib.ListN.{length}
 use Rattle.lists.specs.Lists.{all}
 use Rattle.selector.specs.Call.{isGain}
-use Rattle.selector.proofs.call.Later.{sizes-are, ring-is, located, pointed, roomy, later-11, later-12, later-13, later-14, later-none}
+use Rattle.selector.proofs.call.Later.{sizes-are, ring-is, located, later-11, later-12, later-13, later-14, later-none}
 use Rattle.selector.proofs.call.later_no.Statement.{statement}
 use Rattle.selector.proofs.call.later_no.Tie as tie
 

@@ -9,7 +9,6 @@ use lib.ListN.{length}
 use Rattle.lists.proofs.Loops.{long}
 use Rattle.layout.specs.Channels.{activeCount}
 use Rattle.layout.specs.Questions.{firstNo, layoutQuestions}
-use Rattle.layout.specs.Accepted.{Accepted}
 use Rattle.layout.proofs.Sizes.{Sized}
 use Rattle.layout.proofs.QuestionsAccepted.{accepted}
 use Rattle.extent.specs.Extent.{meanOf, meanRadius}

@@ -1,5 +1,4 @@
 -- By the mean, and by the slot that is found.
-use mathlib.Core.Path.{_≡_}
 use borrow.Author.Needs.{needs}
 use Rattle.selector.proofs.call.Words.{unused-says, kept-says, built-says}
 use Rattle.selector.proofs.call.serve.Statement.{statement}
