@@ -9,7 +9,9 @@ ghost use Rattle.lists.specs.Lists.{all, allDistinct, chunks, elem, total};
 ghost use Rattle.layout.specs.declared.Layout.{Layout as LayoutValue};
 ghost use Rattle.layout.specs.Questions.{countedTo, firstNo, layoutQuestions, ordered};
 ghost use Rattle.keys.specs.Keys.{PackedAs};
-ghost use Rattle.questions.specs.KeyNames.{allActiveIn};
+ghost use Rattle.questions.specs.KeyNames.{allActiveIn, IndexOf};
+use crate::index::index_names;
+use crate::index::place_by;
 use crate::numbers::is_ordered;
 use crate::questions::all_names;
 use layout::place_of;
@@ -62,15 +64,15 @@ fn all_ordered(key: &[u64], places: &[f64], depth: usize, rows: usize) -> bool
 
 // Whether each of the m anchors names an active channel of the first n, none named twice; the named channels are marked.
 // Where the answer is true, no marked channel has the name of one before it.
-fn mark_places(key: &[u64], n: usize, m: usize, seen: &mut [bool]) -> bool
-    requires { ⌜ (length (now key) ≡ 156) × (n ≤ 24) × (m ≤ 24) × (now seen ≡ replicate 24 false) ⌝ }
+fn mark_places(index: &[u8; 167], key: &[u64], n: usize, m: usize, seen: &mut [bool]) -> bool
+    requires { ⌜ (length (now key) ≡ 156) × (n ≤ 24) × (m ≤ 24) × (now seen ≡ replicate 24 false) × IndexOf (now key) n (now index) ⌝ }
     ensures { λ r. ⌜ r ≡ allActiveIn (now (key .entry)) n (slice 76 (76 + m) (now (key .entry))) ⌝ }
     ensures firsts { λ r. ⌜ (r ≡ true → (i : ℕ) → i < n → getD (now (seen .exit)) i false ≡ true → elem (getD (now (key .entry)) i 0) (take i (now (key .entry))) ≡ false) ⌝ }
     ensures long { λ _. ⌜ length (now (seen .exit)) ≡ 24 ⌝ }
 {
     let mut a = 0usize;
     while a < m {
-        let p = place_of(key, n, key[76 + a]);
+        let p = place_by(index, key, n, key[76 + a]);
         if p == n {
             return false;
         }
@@ -106,9 +108,11 @@ fn all_named(key: &[u64], n: usize, m: usize) -> bool
     requires { ⌜ (length (now key) ≡ 156) × (n ≤ 24) × (m ≤ 24) ⌝ }
     ensures { λ r. ⌜ r ≡ (allActiveIn (now (key .entry)) n (slice 76 (76 + m) (now (key .entry))) && allDistinct (take n (now (key .entry)))) ⌝ }
 {
+    let mut index = [0u8; 167];
+    index_names(key, n, &mut index);
     let mut space = [false; 24];
     let seen: &mut [bool] = &mut space;
-    if !mark_places(key, n, m, seen) {
+    if !mark_places(&index, key, n, m, seen) {
         return false;
     }
     rest_distinct(key, n, seen)

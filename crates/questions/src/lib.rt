@@ -1,5 +1,6 @@
 // Questions 1 to 6 of document 01 about a layout.
 mod accepted;
+mod index;
 mod numbers;
 mod questions;
 

@@ -13,7 +13,7 @@ returns c =
 requires : tie.Need-rest-distinct-requires
 requires c κs =
     let m = c .before .before .before .before in
-    let s = m .before .before .before .before in
+    let s = m .before .before .before .before .before .before .before in
     ((omega (arith, s .pre), omega (arith, s .pre, m .mark-places .ensures .1 .1)), m .mark-places .ensures .1 .0 (not-false _ (c .before .if1 .left)))
 
 returns-2 : tie.Need-returns-2
@@ -25,6 +25,7 @@ pub all-named-spec : {M : Type 1} → statement M
 all-named-spec =
     tie.close
     (tie.spec
+    (λ c κs. search needs)
     (λ c. search needs)
     (λ c κs. search needs)
     returns

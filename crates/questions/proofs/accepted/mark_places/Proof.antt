@@ -11,10 +11,10 @@ use Rattle.questions.proofs.accepted.mark_places.Statement.{statement}
 use Rattle.questions.proofs.accepted.mark_places.Tie as tie
 
 abbrev Inv : tie.InvT-loop
-Inv key n m seen₀ a₀ seen a = Marked key n m seen a
+Inv index key n m seen₀ a₀ seen a = Marked key n m seen a
 
 abbrev μ : tie.MeasureT-loop
-μ key n m seen₀ a₀ seen a = m - a
+μ index key n m seen₀ a₀ seen a = m - a
 
 holds : tie.Need-loop-holds Inv μ
 holds c = let p = c .before .before .pre in mark-none _ _ _ _ (p .0) (p .1) (p .2) (p .3)
@@ -22,19 +22,19 @@ holds c = let p = c .before .before .pre in mark-none _ _ _ _ (p .0) (p .1) (p .
 returns : tie.Need-returns Inv μ
 returns c =
     let g = c .before .before .before .before in
-    (mark-absent _ _ _ _ _ (g .loop .inv) (omega arith) _ (c .before .place-of .ensures) (c .if1 .taken), (λ z. absurd (false≢true z), g .loop .inv .room))
+    (mark-absent _ _ _ _ _ (g .loop .inv) (omega arith) _ (c .before .place-by .ensures) (c .if1 .taken), (λ z. absurd (false≢true z), g .loop .inv .room))
 
 returns-2 : tie.Need-returns-2 Inv μ
 returns-2 c =
     let b = c .before .before .before in
     let g = b .before .before .before .before in
-    (mark-not _ _ _ _ _ (g .loop .inv) (omega arith) _ (b .before .place-of .ensures) (b .if1 .left) (c .if2 .taken), (λ z. absurd (false≢true z), g .loop .inv .room))
+    (mark-not _ _ _ _ _ (g .loop .inv) (omega arith) _ (b .before .place-by .ensures) (b .if1 .left) (c .if2 .taken), (λ z. absurd (false≢true z), g .loop .inv .room))
 
 again : tie.Need-loop-again Inv μ
 again c =
     let b = c .before .before .before in
     let g = b .before .before .before .before in
-    mark-more _ _ _ _ _ (g .loop .inv) (omega arith) _ (b .before .place-of .ensures) (b .if1 .left) (c .if2 .left)
+    mark-more _ _ _ _ _ (g .loop .inv) (omega arith) _ (b .before .place-by .ensures) (b .if1 .left) (c .if2 .left)
 
 returns-3 : tie.Need-returns-3 Inv μ
 returns-3 c =
@@ -42,10 +42,10 @@ returns-3 c =
     (mark-done _ _ _ _ _ (v .inv) (omega arith), (λ _. mark-firsts _ _ _ _ _ (v .inv), v .inv .room))
 
 -- the place that was found is that of a channel
-below : (c : tie.Else1 Inv μ) → c .before .place-of .result < c .before .before .before .before .before .before .before .args .n
+below : (c : tie.Else1 Inv μ) → c .before .place-by .result < c .before .before .before .before .before .before .before .args .n
 below c =
     let g = c .before .before .before .before in
-    mark-below _ _ _ _ _ (g .loop .inv) (omega arith) _ (c .before .place-of .ensures) (c .if1 .left)
+    mark-below _ _ _ _ _ (g .loop .inv) (omega arith) _ (c .before .place-by .ensures) (c .if1 .left)
 
 -- as long as at first
 long : (s : tie.Start Inv μ) (seen : List Bool) → length seen ≡ 24 → length seen ≡ length (s .args .seen .now)
