@@ -6,8 +6,8 @@ use lib.Dec.{eqb}
 use lib.IntN.{pos, negsuc}
 use lib.Ieee.{Float, binary64, nan, fin, toBits, lt}
 use Rattle.doubles.specs.Arithmetic.{dec, whole, zero, one}
-use Rattle.doubles.specs.Circular.{H, cosineOf}
-use Rattle.doubles.specs.Exp2.{exp2Of}
+use Rattle.approximations.specs.Circular.{H, cosineOf}
+use Rattle.approximations.specs.Exp2.{exp2Of}
 use Rattle.extent.specs.declared.Extent.{Extent}
 use Rattle.extent.specs.Extent.{meanOf, meanRadius, radiusOf, readingOf, quantised}
 use Rattle.extent.specs.Kernel.{threshold, kernelOf}

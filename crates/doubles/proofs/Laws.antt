@@ -11,16 +11,12 @@ use lib.Ieee.Scale.{finite}
 use Rattle.doubles.specs.Arithmetic.{_⊕_, _⊖_, _⊗_, _⊘_, zero, one}
 use Rattle.doubles.specs.Floor.{floorOf}
 use Rattle.doubles.specs.Root.{sqrtOf}
-use Rattle.doubles.specs.Circular.{H, sineOf, cosineOf}
-use Rattle.doubles.specs.Exp2.{exp2Of}
 use Rattle.doubles.specs.Norm.{sumSquares, Bounded}
 use Rattle.doubles.proofs.Signs as signs
 use Rattle.doubles.proofs.Signs.{clear, notNeg}
 use Rattle.doubles.proofs.Interpolation as interpolation
 use Rattle.doubles.proofs.AddZero as addZero
 use Rattle.doubles.proofs.Bound as bound
-use Rattle.doubles.proofs.circular.Bounds as circular
-use Rattle.doubles.proofs.exp2.Sign as exponential
 
 -- ---- results are doubles
 
@@ -48,13 +44,6 @@ floor-fits nan = fit.nan-fits binary64
 floor-fits (inf s) = fit.inf-fits binary64 s
 floor-fits (fin false m e) = fit.round-fits binary64 false (m * up e / down e) 1
 floor-fits (fin true m e) = fit.round-fits binary64 true ((m * up e + (down e - 1)) / down e) 1
-
--- a sine, a cosine
-pub sine-fits : (a : Float) → T (fits binary64 (sineOf a))
-sine-fits a = circular.sine-fits a
-
-pub cosine-fits : (a : Float) → T (fits binary64 (cosineOf a))
-cosine-fits a = circular.cosine-fits a
 
 -- ---- sign
 
@@ -109,28 +98,6 @@ add-zero x h n = addZero.add-zero binary64 x h n
 -- and so nothing of a clear value
 pub add-zero-clear : (x : Float) → T (fits binary64 x) → T (clear x) → x ⊕ zero ≡ x
 add-zero-clear x h p = add-zero x h (λ (e : x ≡ fin true 0 (pos 0)). subst (λ (z : Float). T (clear z)) e p)
-
--- ---- sine and cosine
-
--- of a from 0 to H they are finite and from 0 to 1
-pub sine-range : (a : Float) → T (fits binary64 a) → T (le zero a) → T (le a H) → T (finite (sineOf a)) × T (le zero (sineOf a)) × T (le (sineOf a) one)
-sine-range a h lo hi = circular.circular-range a h lo hi .0
-
-pub cosine-range : (a : Float) → T (fits binary64 a) → T (le zero a) → T (le a H) → T (finite (cosineOf a)) × T (le zero (cosineOf a)) × T (le (cosineOf a) one)
-cosine-range a h lo hi = circular.circular-range a h lo hi .1
-
--- ---- `approx_exp2`
-
--- it is never negative, and always finite
-pub exp2-clear : (v : Float) → T (fits binary64 v) → T (clear (exp2Of v))
-exp2-clear v h = exponential.exp2-clear v h
-
-pub exp2-finite : (v : Float) → T (finite (exp2Of v))
-exp2-finite v = exponential.exp2-finite v
-
--- where it is not above 0, it is 0
-pub exp2-zero : (v : Float) → T (fits binary64 v) → T (not (lt zero (exp2Of v))) → exp2Of v ≡ zero
-exp2-zero v h l = exponential.exp2-zero v h l
 
 -- ---- normalising
 

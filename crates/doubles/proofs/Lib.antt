@@ -9,6 +9,11 @@ pub mod Interpolation
 pub mod Differences
 pub mod Bound
 pub mod Laws
-pub mod FirstMapped
 pub mod Ratio
-pub mod Weights
+pub mod Finite
+pub mod Floors
+pub mod NearestWhole
+pub mod Exponents
+pub mod PowersOfTwo
+pub mod Squares
+pub mod Logarithms

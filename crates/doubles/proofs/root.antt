@@ -1,4 +1,3 @@
 pub mod DigitLoop
 pub mod Nearest
-pub mod Squares
 pub mod Tested

@@ -2,9 +2,5 @@ pub mod Arithmetic
 pub mod Floor
 pub mod Root
 pub mod Power
-pub mod Circular
-pub mod Exp2
-pub mod Log2
-pub mod Powers
 pub mod Range
 pub mod Norm

@@ -4,8 +4,8 @@ ghost use lib.Ieee.{binary64};
 ghost use Rattle.doubles.specs.Arithmetic.{zero};
 ghost use Rattle.doubles.specs.Floor.{floorOf};
 ghost use Rattle.doubles.specs.Root.{sqrtOf};
-ghost use Rattle.doubles.specs.Exp2.{exp2Of};
-ghost use Rattle.doubles.specs.Log2.{log2Of};
+ghost use Rattle.approximations.specs.Exp2.{exp2Of};
+ghost use Rattle.approximations.specs.Log2.{log2Of};
 ghost use Rattle.doubles_bench.specs.Sums.{folded, added, rooted};
 
 // The sum of the floors of v.
@@ -44,7 +44,7 @@ pub extern "C" fn rug_sum_exp2(v: &[f64]) -> f64
     let mut sum = 0.0;
     let mut i = 0usize;
     while i < v.len() {
-        sum = sum + doubles::approx_exp2(v[i]);
+        sum = sum + approximations::approx_exp2(v[i]);
         i += 1;
     }
     sum
@@ -58,7 +58,7 @@ pub extern "C" fn rug_sum_log2(v: &[f64]) -> f64
     let mut sum = 0.0;
     let mut i = 0usize;
     while i < v.len() {
-        sum = sum + doubles::approx_log2(v[i]);
+        sum = sum + approximations::approx_log2(v[i]);
         i += 1;
     }
     sum

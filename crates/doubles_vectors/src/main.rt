@@ -36,10 +36,10 @@ fn of_double(letter: u8, x: f64) -> u64 {
         match letter {
             b'f' => doubles::floor(x),
             b'r' => doubles::sqrt(x),
-            b's' => doubles::sine(x),
-            b'c' => doubles::cosine(x),
-            b'e' => doubles::approx_exp2(x),
-            b'l' => doubles::approx_log2(x),
+            b's' => approximations::sine(x),
+            b'c' => approximations::cosine(x),
+            b'e' => approximations::approx_exp2(x),
+            b'l' => approximations::approx_log2(x),
             _ => doubles::clamp(x, 0.0, 1.0),
         },
     )

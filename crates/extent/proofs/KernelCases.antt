@@ -4,9 +4,9 @@ use mathlib.Core.Bool.{Bool, true, false, _||_, cond}
 use lib.IntN.{pos}
 use lib.Ieee.{Float, neg, lt, le}
 use Rattle.doubles.specs.Arithmetic.{_⊖_, _⊗_, _⊘_, dec, whole, zero}
-use Rattle.doubles.specs.Circular.{cosineOf}
-use Rattle.doubles.specs.Exp2.{exp2Of}
-use Rattle.doubles.specs.Log2.{log2Of}
+use Rattle.approximations.specs.Circular.{cosineOf}
+use Rattle.approximations.specs.Exp2.{exp2Of}
+use Rattle.approximations.specs.Log2.{log2Of}
 use Rattle.extent.specs.Kernel.{threshold, positive, quarticOf, heightened, kernelAt, kernelOf, shapedOf, exponentOf}
 
 -- a quarter of the distance

@@ -7,7 +7,7 @@ use lib.Ieee.Scale.{finite}
 use Rattle.doubles.specs.Arithmetic.{_⊖_, _⊗_, _⊘_, zero}
 use Rattle.doubles.specs.Floor.{floorOf}
 use Rattle.doubles.specs.Power.{pow2Of}
-use Rattle.doubles.specs.Exp2.{polynomialOf, outside32, finiteOrZero, exp2At, exp2Of}
+use Rattle.approximations.specs.Exp2.{polynomialOf, outside32, finiteOrZero, exp2At, exp2Of}
 use Rattle.doubles.proofs.Signs.{clear}
 use Rattle.extent.specs.Kernel.{threshold, positive, quarticOf, kernelOf, kernelAt, shapedOf}
 use Rattle.extent.proofs.KernelCases.{power, quarter}

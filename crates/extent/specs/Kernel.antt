@@ -4,9 +4,9 @@ use lib.IntN.{pos}
 use lib.Ieee.{Float, neg, lt, le}
 use lib.Ieee.Scale.{finite}
 use Rattle.doubles.specs.Arithmetic.{_⊖_, _⊗_, _⊘_, dec, whole, zero}
-use Rattle.doubles.specs.Circular.{cosineOf}
-use Rattle.doubles.specs.Exp2.{exp2Of}
-use Rattle.doubles.specs.Log2.{log2Of}
+use Rattle.approximations.specs.Circular.{cosineOf}
+use Rattle.approximations.specs.Exp2.{exp2Of}
+use Rattle.approximations.specs.Log2.{log2Of}
 
 -- below this radius there is no field
 abbrev pub threshold : Float

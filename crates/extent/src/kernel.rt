@@ -1,9 +1,9 @@
 // The kernel and the shaping.
 ghost use mathlib.Core.Path.{_≡_};
 ghost use Rattle.extent.specs.Kernel.{kernelOf, quarticOf, positive, shapedOf, exponentOf};
-use doubles::approx_exp2;
-use doubles::approx_log2;
-use doubles::cosine;
+use approximations::approx_exp2;
+use approximations::approx_log2;
+use approximations::cosine;
 use doubles::is_finite;
 
 const ZERO_FIELD_THRESHOLD: f64 = 2.5e-5;

@@ -13,14 +13,14 @@ use lib.ListN.{length, getD, take, drop}
 use Rattle.doubles.specs.Arithmetic.{_⊕_, _⊗_, whole, one, minusOne}
 use Rattle.doubles.specs.Arithmetic.{zero as zero64}
 use Rattle.doubles.specs.Floor.{floorOf}
-use Rattle.doubles.specs.Circular.{sineOf, cosineOf}
+use Rattle.approximations.specs.Circular.{sineOf, cosineOf}
 use Rattle.doubles.specs.Range.{between}
 use Rattle.doubles.proofs.Signs.{clear}
 use Rattle.doubles.proofs.Magnitude.{plain}
 use Rattle.doubles.proofs.Differences.{UpTo}
-use Rattle.doubles.proofs.Laws.{sine-range, cosine-range}
+use Rattle.approximations.proofs.Laws.{sine-range, cosine-range}
 use Rattle.doubles.proofs.Ratio.{ratio-in-room}
-use Rattle.doubles.proofs.Weights.{angle-range, add-from-zero}
+use Rattle.approximations.proofs.Weights.{angle-range, add-from-zero}
 use Rattle.lists.specs.Lists.{all, chain, concat}
 use Rattle.lists.proofs.Takes.{map-take}
 use Rattle.layout.specs.declared.Anchor.{Anchor}

@@ -11,10 +11,11 @@ use lib.ListN.{length, take, getD, set}
 use lib.Seq.{slice, slice-cons, slice-empty, take-suc-set}
 use Rattle.doubles.specs.Arithmetic.{_⊕_, _⊗_}
 use Rattle.doubles.specs.Arithmetic.{zero as zero64}
-use Rattle.doubles.specs.Log2.{log2Of}
-use Rattle.doubles.specs.Powers.{powerOf}
+use Rattle.approximations.specs.Log2.{log2Of}
+use Rattle.approximations.specs.Powers.{powerOf}
 use Rattle.doubles.proofs.Signs.{clear}
-use Rattle.doubles.proofs.Laws.{mul-fits, add-zero-clear, exp2-finite, exp2-zero}
+use Rattle.doubles.proofs.Laws.{mul-fits, add-zero-clear}
+use Rattle.approximations.proofs.Laws.{exp2-finite, exp2-zero}
 use Rattle.extent.specs.Kernel.{positive, shapedOf}
 use Rattle.extent.proofs.KernelCases.{shaped-not, shaped-good, shaped-bad}
 use Rattle.field.specs.Tables.{addSample, sampledOver}

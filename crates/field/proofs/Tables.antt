@@ -11,10 +11,11 @@ use lib.Ieee.{Float, binary64, le, lt, fits}
 use lib.ListN.{length}
 use Rattle.doubles.specs.Arithmetic.{_⊕_, _⊗_}
 use Rattle.doubles.specs.Arithmetic.{zero as zero64}
-use Rattle.doubles.specs.Exp2.{exp2Of}
-use Rattle.doubles.specs.Log2.{log2Of}
+use Rattle.approximations.specs.Exp2.{exp2Of}
+use Rattle.approximations.specs.Log2.{log2Of}
 use Rattle.doubles.proofs.Signs.{clear}
-use Rattle.doubles.proofs.Laws.{add-fits, mul-fits, add-clear, exp2-clear}
+use Rattle.doubles.proofs.Laws.{add-fits, mul-fits, add-clear}
+use Rattle.approximations.proofs.Laws.{exp2-clear}
 use Rattle.layout.specs.Topology.{TopologyLayer}
 use Rattle.extent.specs.Kernel.{positive, kernelOf, shapedOf, exponentOf}
 use Rattle.field.specs.Knots.{Axis, X, Y, isZ, sampleCount, sample, centreKnot, radiusKnot}

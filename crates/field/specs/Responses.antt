@@ -11,7 +11,7 @@ use lib.ListN.{length, getD, take, set}
 use lib.Seq.{slice}
 use Rattle.doubles.specs.Arithmetic.{_⊕_, _⊖_, _⊗_, _⊘_, dec, whole, zero, one}
 use Rattle.doubles.specs.Floor.{floorOf}
-use Rattle.doubles.specs.Circular.{sineOf, cosineOf}
+use Rattle.approximations.specs.Circular.{sineOf, cosineOf}
 use Rattle.lists.specs.Lists.{concat}
 use Rattle.layout.specs.declared.Anchor.{Anchor}
 use Rattle.layout.specs.Topology.{TopologyRow, TopologyLayer, anchorX}

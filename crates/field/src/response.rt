@@ -15,9 +15,9 @@ ghost use lib.Seq.{slice};
 ghost use Rattle.field.specs.Responses.{twoAt, below, pickOf, layerPick, moved, pickEnd, addedAt, partAt, pickAdded, responseAdded, responded, respondedZ, Parted, Grouped};
 use crate::Pick;
 use crate::knots::step;
-use doubles::cosine;
+use approximations::cosine;
 use doubles::floor;
-use doubles::sine;
+use approximations::sine;
 
 const PI: f64 = 3.141592653589793;
 

@@ -13,7 +13,7 @@ ghost use Rattle.field.specs.Sums.{productsOf, sumFrom};
 use crate::columns::first_columns;
 use crate::knots::radius_knot;
 use crate::knots::step;
-use doubles::approx_powers;
+use approximations::approx_powers;
 use extent::compact_quartic_kernel;
 use extent::shaping_exponent;
 

@@ -7,10 +7,11 @@ use lib.Dec.{T}
 use lib.Ieee.{Float, binary64, lt, eq, fits}
 use lib.Ieee.Fits.{cond-fits}
 use Rattle.doubles.specs.Arithmetic.{_⊘_, zero}
-use Rattle.doubles.specs.Exp2.{exp2Of}
-use Rattle.doubles.specs.Log2.{log2Of}
+use Rattle.approximations.specs.Exp2.{exp2Of}
+use Rattle.approximations.specs.Log2.{log2Of}
 use Rattle.doubles.proofs.Signs.{clear}
-use Rattle.doubles.proofs.Laws.{mul-fits, div-fits, mul-clear, exp2-clear}
+use Rattle.doubles.proofs.Laws.{mul-fits, div-fits, mul-clear}
+use Rattle.approximations.proofs.Laws.{exp2-clear}
 use Rattle.gains.specs.declared.Centre.{Centre}
 use Rattle.field.specs.Knots.{X, Y, Z}
 use Rattle.gains.specs.Lookup.{centreKnots, radiusKnots, bracketOf}

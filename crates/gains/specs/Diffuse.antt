@@ -6,8 +6,8 @@ use lib.IntN.{pos}
 use lib.Ieee.{Float, nan, lt, le, eq}
 use lib.ListN.{getD}
 use Rattle.doubles.specs.Arithmetic.{_⊕_, _⊗_, _⊘_, dec, whole, zero, one}
-use Rattle.doubles.specs.Exp2.{exp2Of}
-use Rattle.doubles.specs.Log2.{log2Of}
+use Rattle.approximations.specs.Exp2.{exp2Of}
+use Rattle.approximations.specs.Log2.{log2Of}
 use Rattle.gains.specs.declared.Centre.{Centre}
 use Rattle.gains.specs.declared.Wall.{Wall}
 use Rattle.gains.specs.declared.Wall.the-variants.{X, Y, Z}

@@ -9,7 +9,7 @@ use lib.Ieee.Scale.{finite}
 use lib.ListN.{length, take, drop}
 use Rattle.doubles.specs.Arithmetic.{_⊕_, _⊗_, _⊘_, dec, whole, one}
 use Rattle.doubles.specs.Arithmetic.{zero as zero64}
-use Rattle.doubles.specs.Circular.{sineOf, cosineOf}
+use Rattle.approximations.specs.Circular.{sineOf, cosineOf}
 use Rattle.doubles.specs.Norm.{sumSquares}
 use Rattle.doubles.specs.Range.{clampTo}
 use Rattle.doubles.specs.Root.{sqrtOf}

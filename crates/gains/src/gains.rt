@@ -13,9 +13,9 @@ use crate::Blend;
 use crate::Centre;
 use crate::diffuse::diffuse;
 use doubles::clamp;
-use doubles::cosine;
+use approximations::cosine;
 use doubles::is_finite;
-use doubles::sine;
+use approximations::sine;
 use doubles::sqrt;
 
 const THRESHOLD: f64 = 2.5e-5;

@@ -14,7 +14,7 @@ use lib.Ieee.Bits.{ofBits-fits, cond-no}
 use lib.Ieee.Exact.{HasValue, odd-sign, units-val}
 use Rattle.doubles.specs.Root.{IsRoot, NearRoot}
 use Rattle.doubles.proofs.Magnitude.{same-value}
-use Rattle.doubles.proofs.power.Powers.{ofBits-is, under-63, not-top, not-nan}
+use Rattle.doubles.proofs.PowersOfTwo.{ofBits-is, under-63, not-top, not-nan}
 use Rattle.doubles.proofs.Roots.{sq-lt-back}
 
 -- ---- the 54 digits of the root, and the 53 that are left of them

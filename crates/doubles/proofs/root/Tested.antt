@@ -10,9 +10,9 @@ use lib.Ieee.{Float, binary64, fits, ofBits, toBits, nanBits}
 use lib.Ieee.Bits.{ofBits-toBits}
 use lib.Ieee.Fits.{and-l, and-r}
 use Rattle.doubles.specs.Root.{IsNearestRoot, NearRoot}
-use Rattle.doubles.proofs.whole.Floors.{yes}
+use Rattle.doubles.proofs.Floors.{yes}
 use Rattle.doubles.proofs.root.Nearest.{Near, shifted, near-digits}
-use Rattle.doubles.proofs.root.Squares.{digits53, digits-are}
+use Rattle.doubles.proofs.Squares.{digits53, digits-are}
 
 -- ---- g * g is hi * 2 ^ 52 + lo, by the halves a and c of g's digits
 abbrev pub cross : ℕ → ℕ

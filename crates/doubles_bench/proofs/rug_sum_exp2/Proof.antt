@@ -5,7 +5,7 @@ use native.Mathlib.Omega.{arith}
 use borrow.Author.Needs.{needs}
 use lib.ListN.{length}
 use lib.Ieee.{Float, ofBits}
-use Rattle.doubles.specs.Exp2.{exp2Of}
+use Rattle.approximations.specs.Exp2.{exp2Of}
 use Rattle.doubles.specs.Arithmetic.{_⊕_, zero}
 use Rattle.doubles_bench.specs.Sums.{folded, added}
 use Rattle.doubles_bench.proofs.Folds.{left, left-all, left-more, left-none}

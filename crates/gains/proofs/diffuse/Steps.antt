@@ -6,8 +6,8 @@ use mathlib.Core.List.{List, _++_}
 use lib.Ieee.{Float, nan, lt}
 use lib.ListN.{getD, drop}
 use Rattle.doubles.specs.Arithmetic.{_⊘_, zero}
-use Rattle.doubles.specs.Exp2.{exp2Of}
-use Rattle.doubles.specs.Log2.{log2Of}
+use Rattle.approximations.specs.Exp2.{exp2Of}
+use Rattle.approximations.specs.Log2.{log2Of}
 use Rattle.gains.specs.Lookup.{channels}
 use Rattle.gains.proofs.diffuse.Channels.{channels-cong, getD-channels, drop-channels}
 

@@ -12,10 +12,11 @@ use lib.Ieee.Fits.{down-pos}
 use lib.Ieee.Positive.{num, den, den-pos}
 use Rattle.doubles.specs.Arithmetic.{_⊗_, _⊘_, one}
 use Rattle.doubles.specs.Arithmetic.{zero as zero64}
-use Rattle.doubles.specs.Circular.{sineOf, cosineOf}
+use Rattle.approximations.specs.Circular.{sineOf, cosineOf}
 use Rattle.doubles.specs.Range.{clampTo}
 use Rattle.doubles.proofs.Signs.{notNeg}
-use Rattle.doubles.proofs.Laws.{div-fits, mul-notNeg, notNeg-of-le, sine-range, cosine-range}
+use Rattle.doubles.proofs.Laws.{div-fits, mul-notNeg, notNeg-of-le}
+use Rattle.approximations.proofs.Laws.{sine-range, cosine-range}
 use Rattle.gains.specs.declared.Blend.{Blend}
 use Rattle.gains.specs.declared.Blend.the-variants.{Point, Both, Field}
 use Rattle.gains.specs.Gains.{bothOf, blendOf}

@@ -1,4 +1,4 @@
--- `doubles::power::floor_log2` meets its contract: each need is a fact of `proofs/power/Logarithms.antt`. Assumes nothing.
+-- `doubles::power::floor_log2` meets its contract: each need is a fact of `proofs/Logarithms.antt`. Assumes nothing.
 use mathlib.Core.Path.{sym, subst}
 use mathlib.Core.Bool.{not}
 use native.Mathlib.Nat.{lt-of-lt-of-le, lt-of-le-of-lt}
@@ -6,8 +6,8 @@ use lib.Dec.{T, lit<, lit≤}
 use lib.Count.{leading-le}
 use lib.Ieee.{Float, binary64, fits, isNan}
 use lib.Ieee.Compare.{differs-from-itself}
-use Rattle.doubles.proofs.whole.Floors.{yes, no}
-use Rattle.doubles.proofs.power.Logarithms.{plainBits, byDigits, byField, Is, no-nan, field-small, log-nan, log-zero, log-top, log-subnormal, log-normal}
+use Rattle.doubles.proofs.Floors.{yes, no}
+use Rattle.doubles.proofs.Logarithms.{plainBits, byDigits, byField, Is, no-nan, field-small, log-nan, log-zero, log-top, log-subnormal, log-normal}
 use Rattle.doubles.proofs.power.floor_log2.Statement.{statement}
 use Rattle.doubles.proofs.power.floor_log2.Tie as tie
 

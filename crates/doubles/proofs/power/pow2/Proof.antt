@@ -1,10 +1,10 @@
--- `doubles::power::pow2` meets its contract: each need is a fact of `proofs/power/Powers.antt`. Assumes nothing.
+-- `doubles::power::pow2` meets its contract: each need is a fact of `proofs/PowersOfTwo.antt`. Assumes nothing.
 use mathlib.Core.Path.{sym, subst}
 use Prim.Native.Nat.{ℕ, _<_}
 use native.Mathlib.Nat.{lt-of-lt-of-le}
 use lib.Dec.{lit≤}
 use lib.Ieee.{ofBits, nanBits}
-use Rattle.doubles.proofs.power.Powers.{Middle, Low, middle, low, middle-placed, low-placed, top, bottom}
+use Rattle.doubles.proofs.PowersOfTwo.{Middle, Low, middle, low, middle-placed, low-placed, top, bottom}
 use Rattle.doubles.proofs.power.pow2.Statement.{statement}
 use Rattle.doubles.proofs.power.pow2.Tie as tie
 

@@ -1,6 +1,6 @@
--- `doubles::range::is_finite` meets its contract, by `proofs/range/Finite.antt`. Assumes nothing.
-use Rattle.doubles.proofs.range.Finite.{minus-inf-is, finite-is}
-use Rattle.doubles.proofs.root.Squares.{inf-is}
+-- `doubles::range::is_finite` meets its contract, by `proofs/Finite.antt`. Assumes nothing.
+use Rattle.doubles.proofs.Finite.{minus-inf-is, finite-is}
+use Rattle.doubles.proofs.Squares.{inf-is}
 use Rattle.doubles.proofs.range.is_finite.Statement.{statement}
 use Rattle.doubles.proofs.range.is_finite.Tie as tie
 

@@ -3,9 +3,9 @@ use mathlib.Core.Path.{sym, subst}
 use lib.Dec.{T}
 use lib.Ieee.{binary64, fits, ofBits, toBits}
 use borrow.Author.Needs.{needs}
-use Rattle.doubles.proofs.whole.Floors.{yes}
+use Rattle.doubles.proofs.Floors.{yes}
 use Rattle.doubles.proofs.root.Nearest.{shift-lt, root-asks}
-use Rattle.doubles.proofs.root.Squares.{over-no-nan}
+use Rattle.doubles.proofs.Squares.{over-no-nan}
 use Rattle.doubles.proofs.root.Tested.{digits53-lt, tested-near}
 use Rattle.doubles.proofs.root.is_rounded.Statement.{statement}
 use Rattle.doubles.proofs.root.is_rounded.Tie as tie

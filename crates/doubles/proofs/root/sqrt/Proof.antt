@@ -1,4 +1,4 @@
--- `doubles::sqrt` meets its contract: each need is a fact of `proofs/root/Squares.antt`. Assumes nothing.
+-- `doubles::sqrt` meets its contract: each need is a fact of `proofs/Squares.antt`. Assumes nothing.
 use mathlib.Core.Path.{sym, _∙_, subst}
 use mathlib.Core.Bool.{false, not}
 use lib.Dec.{T, T-not}
@@ -6,8 +6,8 @@ use lib.Ieee.{Float, inf, binary64, fits, lt, ofBits}
 use lib.Ieee.Scale.{finite}
 use Rattle.doubles.specs.Root.{NearRoot, squareUnits}
 use Rattle.doubles.proofs.Bound.{mag-pos}
-use Rattle.doubles.proofs.whole.Floors.{zeroF, yes, no}
-use Rattle.doubles.proofs.root.Squares.{near-sqrt, inf-is, nan-is, is-plain, under-inf, not-under-inf, at-inf, at-zero, at-minus}
+use Rattle.doubles.proofs.Floors.{zeroF, yes, no}
+use Rattle.doubles.proofs.Squares.{near-sqrt, inf-is, nan-is, is-plain, under-inf, not-under-inf, at-inf, at-zero, at-minus}
 use Rattle.doubles.proofs.root.sqrt.Statement.{statement}
 use Rattle.doubles.proofs.root.sqrt.Tie as tie
 

@@ -1,4 +1,4 @@
--- `doubles::root::sqrt_positive` meets its contract: each need is a fact of `proofs/root/Squares.antt`. Assumes nothing.
+-- `doubles::root::sqrt_positive` meets its contract: each need is a fact of `proofs/Squares.antt`. Assumes nothing.
 use mathlib.Core.Path.{_≡_, sym, ap, _∙_, subst}
 use Prim.Native.Nat.{ℕ, _+_, _*_, _/_, _^_, _≤_}
 use native.Mathlib.Nat.{lt-of-le-of-lt, lt-of-lt-of-le}
@@ -7,9 +7,9 @@ use lib.Dec.{T, lit<, lit≤}
 use lib.Count.{leadingZeros, leading-le}
 use lib.Ieee.{Float, binary64, fits, toBits}
 use Rattle.doubles.proofs.Magnitude.{mag, plain}
-use Rattle.doubles.proofs.whole.Floors.{yes}
+use Rattle.doubles.proofs.Floors.{yes}
 use Rattle.doubles.proofs.Bound.{mag-pos}
-use Rattle.doubles.proofs.root.Squares.{Shape, Asked, Moved, digits53, shape, normal, subnormal, near-by, is-plain, over-no-nan}
+use Rattle.doubles.proofs.Squares.{Shape, Asked, Moved, digits53, shape, normal, subnormal, near-by, is-plain, over-no-nan}
 use Rattle.doubles.proofs.root.sqrt_positive.Statement.{statement}
 use Rattle.doubles.proofs.root.sqrt_positive.Tie as tie
 

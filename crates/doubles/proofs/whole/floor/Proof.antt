@@ -6,8 +6,8 @@ use lib.Dec.{T}
 use lib.IntN.{pos}
 use lib.Ieee.{Float, fin, lt, le, ne, neg, ofBits}
 use lib.Ieee.Fits.{and-l, and-r}
-use Rattle.doubles.proofs.whole.Floors.{yes}
-use Rattle.doubles.proofs.whole.Nearest.{lt-le, floor-same, differs-not}
+use Rattle.doubles.proofs.Floors.{yes}
+use Rattle.doubles.proofs.NearestWhole.{lt-le, floor-same, differs-not}
 use Rattle.doubles.proofs.whole.floor.Statement.{statement}
 use Rattle.doubles.proofs.whole.floor.Tie as tie
 
@@ -28,7 +28,7 @@ under : (c : tie.Then1) → T (lt (x c) (fin false 1 (pos 51)))
 under c = and-r (lt (fin true 1 (pos 51)) (x c)) (lt (x c) (fin false 1 (pos 51))) (two c)
 
 floor-near-requires : tie.Need-floor-near-requires
-floor-near-requires c κs = (from c, under c)
+floor-near-requires c κs = search needs
 
 floor-any-requires : tie.Need-floor-any-requires
 floor-any-requires c κs = search needs
@@ -36,7 +36,7 @@ floor-any-requires c κs = search needs
 returns : tie.Need-returns
 returns c =
     let t = c .before in
-    c .floor-near .ensures ∙ floor-same (x t) (from t) (under t) (differs-not (x t) (and-r (lt (fin true 1 (pos 51)) (x t) && lt (x t) (fin false 1 (pos 51))) (ne (x t) (fin false 0 (pos 0))) (test t)))
+    c .floor-near .ensures .1 (from t) (under t) ∙ floor-same (x t) (from t) (under t) (differs-not (x t) (and-r (lt (fin true 1 (pos 51)) (x t) && lt (x t) (fin false 1 (pos 51))) (ne (x t) (fin false 0 (pos 0))) (test t)))
 
 returns-2 : tie.Need-returns-2
 returns-2 c = search needs

@@ -1,4 +1,4 @@
--- `doubles::whole::floor_any` meets its contract. Each need is a fact of `proofs/whole/Floors.antt`, once the constants' bit patterns are read. Assumes nothing.
+-- `doubles::whole::floor_any` meets its contract. Each need is a fact of `proofs/Floors.antt`, once the constants' bit patterns are read. Assumes nothing.
 use mathlib.Core.Path.{sym, ap, _∙_, subst}
 use mathlib.Core.Bool.{not}
 use Prim.Native.Nat.{ℕ, _+_, _^_, _<_, _≤_}
@@ -7,7 +7,7 @@ use native.Mathlib.Omega.{arith}
 use lib.Dec.{T}
 use lib.IntN.{pos}
 use lib.Ieee.{Float, binary64, fits, lt, neg, ofBits, ofInt}
-use Rattle.doubles.proofs.whole.Floors.{zeroF, B, yes, no, asks, whole-lt, casts, floor-above, turn, floor-below-more, floor-below-same, high, deep, neither}
+use Rattle.doubles.proofs.Floors.{zeroF, B, yes, no, asks, whole-lt, casts, floor-above, turn, floor-below-more, floor-below-same, high, deep, neither}
 use Rattle.doubles.proofs.whole.floor_any.Statement.{statement}
 use Rattle.doubles.proofs.whole.floor_any.Tie as tie
 

@@ -3,7 +3,7 @@ use mathlib.Core.Path.{_≡_, sym, ap, _∙_}
 use borrow.Author.Needs.{needs}
 use lib.Ieee.{Float, ofBits}
 use Rattle.doubles.specs.Arithmetic.{_⊗_}
-use Rattle.doubles.specs.Exp2.{exp2Of}
+use Rattle.approximations.specs.Exp2.{exp2Of}
 use Rattle.extent.proofs.KernelCases.{power, shaped-not, shaped-good, shaped-bad}
 use Rattle.extent.proofs.kernel.shaped.Statement.{statement}
 use Rattle.extent.proofs.kernel.shaped.Tie as tie

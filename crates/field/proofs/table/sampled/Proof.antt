@@ -3,8 +3,8 @@ use Prim.Native.Nat.{ℕ, _+_, _*_}
 use borrow.Author.Needs.{needs}
 use lib.Ieee.{nan}
 use lib.ListN.{getD}
-use Rattle.doubles.specs.Powers.{powerOf}
-use Rattle.doubles.proofs.FirstMapped.{first-taken}
+use Rattle.approximations.specs.Powers.{powerOf}
+use Rattle.approximations.proofs.FirstMapped.{first-taken}
 use Rattle.field.proofs.SampledSums.{sum-powers}
 use Rattle.field.proofs.table.sampled.Statement.{statement}
 use Rattle.field.proofs.table.sampled.Tie as tie

@@ -7,7 +7,7 @@ use borrow.Author.Needs.{needs}
 use lib.Ieee.{Float, nan, lt}
 use lib.ListN.{length, getD}
 use Rattle.doubles.specs.Arithmetic.{_⊘_, zero}
-use Rattle.doubles.specs.Log2.{log2Of}
+use Rattle.approximations.specs.Log2.{log2Of}
 use Rattle.gains.proofs.lookup.Writing.{Written, written-none, written-more, written-done}
 use Rattle.gains.proofs.diffuse.logs.Statement.{statement}
 use Rattle.gains.proofs.diffuse.logs.Tie as tie

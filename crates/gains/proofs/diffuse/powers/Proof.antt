@@ -7,7 +7,7 @@ use borrow.Author.Needs.{needs}
 use lib.Ieee.{Float, nan, lt}
 use lib.ListN.{length, getD}
 use Rattle.doubles.specs.Arithmetic.{zero}
-use Rattle.doubles.specs.Exp2.{exp2Of}
+use Rattle.approximations.specs.Exp2.{exp2Of}
 use Rattle.gains.proofs.lookup.Writing.{Written, written-none, written-more, written-done}
 use Rattle.gains.proofs.diffuse.Channels.{written-reads}
 use Rattle.gains.proofs.diffuse.powers.Statement.{statement}

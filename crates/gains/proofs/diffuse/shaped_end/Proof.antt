@@ -6,8 +6,8 @@ use lib.Dec.{T}
 use lib.Ieee.{Float, ofBits, lt}
 use lib.Ieee.Scale.{finite}
 use Rattle.doubles.specs.Arithmetic.{_⊗_, zero}
-use Rattle.doubles.specs.Exp2.{exp2Of}
-use Rattle.doubles.proofs.Laws.{exp2-finite}
+use Rattle.approximations.specs.Exp2.{exp2Of}
+use Rattle.approximations.proofs.Laws.{exp2-finite}
 use Rattle.extent.specs.Kernel.{positive}
 use Rattle.extent.proofs.KernelCases.{power, shaped-not, shaped-good, shaped-bad}
 use Rattle.gains.proofs.diffuse.shaped_end.Statement.{statement}

@@ -5,8 +5,8 @@ use borrow.Author.Needs.{needs}
 use lib.Ieee.{Float, nan, lt}
 use lib.ListN.{getD}
 use Rattle.doubles.specs.Arithmetic.{_⊘_, zero}
-use Rattle.doubles.specs.Exp2.{exp2Of}
-use Rattle.doubles.specs.Log2.{log2Of}
+use Rattle.approximations.specs.Exp2.{exp2Of}
+use Rattle.approximations.specs.Log2.{log2Of}
 use Rattle.gains.proofs.diffuse.Steps.{powerOf, power-by-log, by-two}
 use Rattle.gains.proofs.diffuse.unshape.Statement.{statement}
 use Rattle.gains.proofs.diffuse.unshape.Tie as tie

@@ -1,0 +1,3 @@
+pub mod FirstMapped
+pub mod Weights
+pub mod Laws

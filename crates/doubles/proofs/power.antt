@@ -1,3 +1,0 @@
-pub mod Powers
-pub mod Exponents
-pub mod Logarithms
