@@ -17,10 +17,10 @@ use Rattle.region.specs.declared.RegionHorizontalState.the-variants.{NoConstrai
 use Rattle.region.specs.declared.RegionTopBottomState.the-variants.{Exclude}
 use Rattle.region.specs.declared.Zones.{Zones}
 use Rattle.region.specs.declared.Zones.the-variants.{State, Refused}
-use Rattle.region.specs.declared.Bed.{Bed}
-use Rattle.region.specs.declared.Bed.the-variants.{Kept, Dropped, Unclassed}
+use Rattle.classes.specs.declared.Bed.{Bed}
+use Rattle.classes.specs.declared.Bed.the-variants.{Kept, Dropped, Unclassed}
 use Rattle.region.specs.Zones.{zonesOf, isInclude}
-use Rattle.region.specs.Classes.{bedOf}
+use Rattle.classes.specs.Classes.{bedOf}
 
 pub record Case : Type 0 where
   pub found : ℕ

@@ -16,7 +16,7 @@ use crate::table::end_response;
 use crate::table::table_xy;
 use crate::table::table_z;
 use layout::Layout;
-use layout::active_count;
+use channels::active_count;
 use layout::anchor_starts;
 use layout::row_starts;
 use layout::row_total;

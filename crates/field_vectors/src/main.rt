@@ -238,7 +238,7 @@ fn project(store: &[f64], l: Layout, o: Object, p: usize) {
 fn gains_of(store: &[f64], l: Layout, o: Object, p: usize, mean: u64, radius: f64) {
     let mut gains = [7.0f64; 24];
     let points = o.points;
-    let n = layout::active_count(l);
+    let n = channels::active_count(l);
     let c = o.centre;
     if gains::project(
         &mut gains,
@@ -350,7 +350,7 @@ fn project_often(store: &[f64], l: Layout, o: Object, count: u64) {
             project_turns(
                 store,
                 o,
-                layout::active_count(l),
+                channels::active_count(l),
                 1 < l.depth,
                 mean,
                 radius,

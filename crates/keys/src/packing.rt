@@ -19,7 +19,7 @@ use layout::Channel;
 use layout::Layer;
 use layout::Layout;
 use layout::Row;
-use layout::covered;
+use channels::covered;
 use layout::covered_layers;
 use layout::next_start;
 

@@ -4,16 +4,8 @@
 // with the count of its rows and each row with the count of its anchors. Fields are public, and any
 // value may stand in them: the questions look at a count before anything is read by it.
 mod build;
-mod channels;
-mod name;
-mod places;
 mod starts;
 
-pub use channels::active_count;
-pub use channels::active_names;
-pub use channels::covered;
-pub use name::is_name;
-pub use places::place_of;
 pub use starts::anchor_starts;
 pub use starts::anchor_total;
 pub use starts::covered_layers;

@@ -123,7 +123,7 @@ fn put(n: u64, end: &[u8]) {
 
 fn ask(l: Layout) {
     put(questions::first_no(l), b" ");
-    put(layout::active_count(l) as u64, b" ");
+    put(channels::active_count(l) as u64, b" ");
     put(layout::row_total(l) as u64, b" ");
     put(layout::anchor_total(l) as u64, b"\n");
 }
@@ -154,12 +154,12 @@ fn compare(a: Layout, b: Layout) {
 }
 
 fn place_among(names: &[u64; 24], n: usize, name: u64) -> usize {
-    layout::place_of(names, n, name)
+    channels::place_of(names, n, name)
 }
 
 fn place(l: Layout, name: u64) {
     let mut names = [0u64; 24];
-    let n = layout::active_names(l, &mut names);
+    let n = channels::active_names(l, &mut names);
     put(place_among(&names, n, name) as u64, b"\n");
 }
 

@@ -14,7 +14,7 @@ use crate::index::index_names;
 use crate::index::place_by;
 use crate::numbers::is_ordered;
 use crate::questions::all_names;
-use layout::place_of;
+use channels::place_of;
 
 // The sum of n counts from place `at` on; 25 where one is not from 1 to `most`.
 fn counted(key: &[u64], at: usize, n: usize, most: u64) -> usize

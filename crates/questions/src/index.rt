@@ -5,7 +5,7 @@ ghost use mathlib.Core.Path.{_≡_};
 ghost use Prim.Native.Nat.{_%_, _≤_};
 ghost use lib.ListN.{length};
 ghost use Rattle.questions.specs.KeyNames.{placeIn, IndexOf};
-use layout::place_of;
+use channels::place_of;
 
 // The entry of a name.
 fn entry(name: u64) -> usize

@@ -5,7 +5,7 @@ ghost use lib.ListN.{length, take};
 ghost use lib.Seq.{slice};
 ghost use Rattle.lists.specs.Lists.{allDistinct};
 ghost use Rattle.layout.specs.Questions.{inRoom, ordered};
-use layout::place_of;
+use channels::place_of;
 
 // Whether the first n numbers of v are all different.
 pub(crate) fn all_distinct(v: &[u64], n: usize) -> bool

@@ -1,15 +1,9 @@
-// Regions: what the zone flags say, and which speakers a region keeps.
+// Regions: what the zone flags say.
 ghost use mathlib.Core.Path.{_≡_};
 ghost use Rattle.region.specs.Zones.{defaultState};
 
-mod classes;
 mod flags;
 
-pub use classes::five_x;
-pub use classes::is_22_2;
-pub use classes::is_flc;
-pub use classes::is_outside_five;
-pub use classes::matches_bed_state;
 pub use flags::from_decoded_zones;
 pub use flags::is_default;
 pub use flags::is_include;
@@ -53,21 +47,4 @@ impl RegionSemanticState {
 pub enum Zones {
     State(RegionSemanticState),
     Refused(u64),
-}
-
-// What a region does with a speaker of the bed: it keeps it or drops it, or the speaker has no class.
-pub enum Bed {
-    Kept,
-    Dropped,
-    Unclassed,
-}
-
-// The classes of a speaker; `classed` is false where its name has none.
-pub struct Speaker {
-    pub classed: bool,
-    pub screen: bool,
-    pub centre: bool,
-    pub surround: bool,
-    pub back: bool,
-    pub side: bool,
 }

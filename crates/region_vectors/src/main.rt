@@ -14,7 +14,7 @@ use layout::Channel;
 use layout::Layout;
 use libc::STDIN_FILENO;
 use libc::STDOUT_FILENO;
-use region::Bed;
+use classes::Bed;
 use region::RegionHorizontalState;
 use region::RegionSemanticState;
 use region::RegionTopBottomState;
@@ -138,7 +138,7 @@ fn bed_number(b: Bed) -> u64 {
 fn tell_bed(h: u64, name: u64, five: bool) {
     let state = horizontal_of(h);
     put(
-        bed_number(region::matches_bed_state(state, name, five)),
+        bed_number(classes::matches_bed_state(state, name, five)),
         b"",
     );
 }

@@ -103,7 +103,7 @@ fn gains(names: &[u64; 24], v: &[f64], n: usize) {
 // The gains of the active channels, a line each.
 fn active_gains(l: Layout, v: &[f64], n: usize) {
     let mut names = [0u64; 24];
-    layout::active_names(l, &mut names);
+    channels::active_names(l, &mut names);
     gains(&names, v, n);
 }
 

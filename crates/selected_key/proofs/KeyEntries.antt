@@ -18,7 +18,7 @@ use Rattle.layout.proofs.Sizes.{Sized}
 use Rattle.layout.proofs.TopologyLists.{take-taken}
 use Rattle.keys.specs.Keys.{PackedAs}
 use Rattle.keys.proofs.KeyReads.{Reads, key-reads}
-use Rattle.region.specs.Classes.{outsideFive, isFLc, fiveX, is222}
+use Rattle.classes.specs.Classes.{outsideFive, isFLc, fiveX, is222}
 
 -- ---- lists whose first n entries are the same
 module _ {A : Type 0} (n : ℕ) (xs ys : List A) (e : take n xs ≡ take n ys) where

@@ -19,7 +19,7 @@ use Rattle.layout.proofs.TopologyStarts.{starts-first}
 use Rattle.keys.specs.Keys.{PackedAs}
 use Rattle.region.specs.declared.RegionSemanticState.{RegionSemanticState}
 use Rattle.region.specs.Zones.{isNoConstraints}
-use Rattle.region.specs.Classes.{bedOf, outsideFive, isFLc}
+use Rattle.classes.specs.Classes.{bedOf, outsideFive, isFLc}
 use Rattle.selection.specs.declared.selection.Rule.{Rule}
 use Rattle.selection.specs.Selection.{isClassed, ruleOf, passes, keptFlags, question10}
 use Rattle.selection.proofs.FlagLayers.{Layered, layered-none, layered-more, layered-done, classedFrom, classed-more, classed-done as done, classed-all}

@@ -12,7 +12,7 @@ use crate::flags::bed_classed;
 use crate::flags::kept_flags;
 use crate::kept::copy_first;
 use crate::kept::pack_kept;
-use layout::covered;
+use channels::covered;
 use layout::covered_layers;
 use region::RegionSemanticState;
 use region::is_default;

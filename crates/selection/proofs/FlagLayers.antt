@@ -23,7 +23,7 @@ use Rattle.layout.proofs.Sizes.{Sized}
 use Rattle.region.specs.declared.RegionSemanticState.{RegionSemanticState}
 use Rattle.selection.specs.declared.selection.Rule.{Rule}
 use Rattle.region.specs.Zones.{isNoConstraints}
-use Rattle.region.specs.Classes.{bedOf, fiveX, is222}
+use Rattle.classes.specs.Classes.{bedOf, fiveX, is222}
 use Rattle.selection.specs.Selection.{isClassed, stays, rowFlags, layerFlags, keptFlags, classedLayer, question10, ruleOf, passes}
 use Rattle.selection.proofs.Counts.{slice-past, starts-long as starts-long-4}
 use Rattle.selection.proofs.Tested.{rows-flags}

@@ -25,7 +25,7 @@ use Rattle.layout.proofs.TopologyStarts.{topologyAnchors, layers-length}
 use Rattle.region.specs.declared.RegionSemanticState.{RegionSemanticState}
 use Rattle.selection.specs.declared.Selected.{Selected}
 use Rattle.region.specs.Zones.{isInclude, isNoConstraints, isDefault}
-use Rattle.region.specs.Classes.{fiveX}
+use Rattle.classes.specs.Classes.{fiveX}
 use Rattle.selection.specs.Select.{picked, hasRows, recountedRows, recountedLayers, countedRow, countedLayer, padded, anchorCounts, rowCounts, keptLayout, keptLayers}
 use Rattle.selection.specs.Selection.{stays, passingFrom, classedLayer, selectedTopology, question9, question10, layerFlags, keptFlags, selectedLayout, selectionRefusal, selectionOf}
 use Rattle.selection.proofs.Flat.{kept-arrays}

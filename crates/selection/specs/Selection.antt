@@ -14,10 +14,10 @@ use Rattle.layout.specs.Questions.{firstNo}
 use Rattle.region.specs.declared.RegionSemanticState.{RegionSemanticState}
 use Rattle.selection.specs.declared.selection.Rule.{Rule}
 use Rattle.selection.specs.declared.Selected.{Selected}
-use Rattle.region.specs.declared.Bed.{Bed}
-use Rattle.region.specs.declared.Bed.the-variants.{Kept, Dropped, Unclassed}
+use Rattle.classes.specs.declared.Bed.{Bed}
+use Rattle.classes.specs.declared.Bed.the-variants.{Kept, Dropped, Unclassed}
 use Rattle.region.specs.Zones.{isInclude, isNoConstraints, isDefault}
-use Rattle.region.specs.Classes.{bedOf, fiveX, is222}
+use Rattle.classes.specs.Classes.{bedOf, fiveX, is222}
 use Rattle.selection.specs.Select.{hasAnchors, hasRows, keptLayout}
 
 -- If a channel is FLc, layers with z > 0 are upper; otherwise only the second of exactly two layers is upper, whatever its z

@@ -8,14 +8,14 @@ ghost use lib.Seq.{slice};
 ghost use Rattle.doubles.specs.Arithmetic.{zero};
 ghost use Rattle.lists.specs.Lists.{all};
 ghost use Rattle.region.specs.Zones.{isNoConstraints};
-ghost use Rattle.region.specs.Classes.{bedOf};
+ghost use Rattle.classes.specs.Classes.{bedOf};
 ghost use Rattle.selection.specs.Selection.{isClassed, question10};
 use layout::Layout;
-use region::Bed;
+use classes::Bed;
 use region::RegionHorizontalState;
 use region::RegionSemanticState;
-use region::five_x;
-use region::matches_bed_state;
+use classes::five_x;
+use classes::matches_bed_state;
 
 // Whether the speaker of a name has a class.
 pub fn is_classed(h: RegionHorizontalState, name: u64, five: bool) -> bool

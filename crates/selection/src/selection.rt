@@ -12,20 +12,20 @@ ghost use Rattle.lists.specs.Lists.{all};
 ghost use Rattle.layout.specs.Questions.{firstNo};
 ghost use Rattle.layout.specs.Topology.{topologyOf};
 ghost use Rattle.region.specs.Zones.{isDefault};
-ghost use Rattle.region.specs.Classes.{bedOf};
+ghost use Rattle.classes.specs.Classes.{bedOf};
 ghost use Rattle.selection.specs.Selection.{isKept, ruleOf, passes, keptFlags, selectedTopology, selectionOf};
 use crate::Selected;
 use crate::ground::bed_classed;
 use crate::select::select_kept;
 use layout::Layout;
-use region::Bed;
+use classes::Bed;
 use region::RegionHorizontalState;
 use region::RegionSemanticState;
-use region::five_x;
-use region::is_22_2;
+use classes::five_x;
+use classes::is_22_2;
 use region::is_default;
 use region::is_include;
-use region::matches_bed_state;
+use classes::matches_bed_state;
 
 // How a layer keeps its anchors: an upper one goes or stays whole, others keep all or go by class.
 pub struct Rule {

@@ -173,7 +173,7 @@ fn ask_and_serve(
     ensures refused { λ s. ⌜ ((s .refusal ≡ 0 → ⊥) → now (gains .exit) ≡ now (gains .entry)) ⌝ }
     ensures served { λ s. ⌜ (s .refusal ≡ 0 → (s .n ≡ activeIn (now (key .entry))) × (s .word ≡ wordBy mean (slotOf (now (words .entry)) r (now (key .entry)))) × (now (gains .exit) ≡ gainsSoFar (now (store .entry)) (now (key .entry)) (slotOf (now (words .entry)) r (now (key .entry))) (activeIn (now (key .entry))) mean radius c (now (points .entry)) (now (gains .entry)))) ⌝ }
 {
-    let n = active_in(key, layout::covered(key[152] as usize));
+    let n = active_in(key, channels::covered(key[152] as usize));
     let q = later_no(c, points, n, gains.len(), store.len(), r);
     if q != 0 {
         return unserved(q);

@@ -137,7 +137,7 @@ fn turns(store: &mut [f64], points: &[f64], l: Layout, flags: [bool; 6], built: 
 fn call_often(store: &mut [f64], l: Layout, flags: [bool; 6], built: bool, count: u64) {
     let space = [0.3f64; 24];
     let points: &[f64] = &space;
-    let n = layout::active_count(l);
+    let n = channels::active_count(l);
     if n <= points.len() {
         turns(store, &points[..n], l, flags, built, count);
     }

@@ -3,9 +3,9 @@ ghost use mathlib.Core.Path.{_≡_};
 ghost use mathlib.Core.List.{map};
 ghost use Rattle.layout.specs.Topology.{layerStarts, anchorPlace, layerZ, rowY, anchorX, anchorName};
 use layout::Layout;
-use layout::active_names;
+use channels::active_names;
 use layout::anchor_starts;
-use layout::place_of;
+use channels::place_of;
 use layout::row_starts;
 
 // z of each layer.

@@ -10,7 +10,7 @@ use lib.Seq.{slice}
 use Rattle.lists.specs.Lists.{all}
 use Rattle.layout.proofs.QuestionsLoops.{all-not, all-next}
 use Rattle.region.specs.declared.RegionHorizontalState.{RegionHorizontalState}
-use Rattle.region.specs.Classes.{bedOf}
+use Rattle.classes.specs.Classes.{bedOf}
 use Rattle.selection.specs.Selection.{isClassed}
 use Rattle.selection.proofs.Counts.{slice-past}
 use Rattle.selected_key.proofs.KeySums.{part-more}

@@ -5,7 +5,7 @@ use mathlib.Core.Bool.{not}
 use native.Mathlib.Omega.{arith}
 use borrow.Author.Needs.{needs}
 use lib.ListN.{length}
-use Rattle.region.specs.Classes.{outsideFive}
+use Rattle.classes.specs.Classes.{outsideFive}
 use Rattle.selected_key.proofs.KeyNames.{someFrom, some-done, some-here, some-next}
 use Rattle.selected_key.proofs.flags.five_x.Statement.{statement}
 use Rattle.selected_key.proofs.flags.five_x.Tie as tie

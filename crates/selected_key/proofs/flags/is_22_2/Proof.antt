@@ -4,7 +4,7 @@ use mathlib.Core.Path.{_≡_, refl, sym, _∙_}
 use native.Mathlib.Omega.{arith}
 use borrow.Author.Needs.{needs}
 use lib.ListN.{length}
-use Rattle.region.specs.Classes.{isFLc}
+use Rattle.classes.specs.Classes.{isFLc}
 use Rattle.selected_key.proofs.KeyNames.{someFrom, some-done, some-here, some-next}
 use Rattle.selected_key.proofs.flags.is_22_2.Statement.{statement}
 use Rattle.selected_key.proofs.flags.is_22_2.Tie as tie
