@@ -20,8 +20,9 @@ use Rattle.keys.specs.Keys.{PackedAs}
 use Rattle.region.specs.declared.RegionSemanticState.{RegionSemanticState}
 use Rattle.region.specs.Zones.{isNoConstraints}
 use Rattle.classes.specs.Classes.{bedOf, outsideFive, isFLc}
-use Rattle.selection.specs.declared.selection.Rule.{Rule}
-use Rattle.selection.specs.Selection.{isClassed, ruleOf, passes, keptFlags, question10}
+use Rattle.rules.specs.declared.rule.Rule.{Rule}
+use Rattle.rules.specs.Rules.{isClassed, ruleOf, passes}
+use Rattle.selection.specs.Selection.{keptFlags, question10}
 use Rattle.selection.proofs.FlagLayers.{Layered, layered-none, layered-more, layered-done, classedFrom, classed-more, classed-done as done, classed-all}
 use Rattle.selection.proofs.LayerAnchors.{layer-start, layer-start-first}
 use Rattle.selected_key.proofs.KeyEntries.{mapped, Given, sized, few, five-is, wide-is, key-count, key-z, key-rows, key-anchors}

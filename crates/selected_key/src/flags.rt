@@ -15,18 +15,19 @@ ghost use Rattle.layout.specs.declared.Layout.{Layout as LayoutValue};
 ghost use Rattle.layout.specs.Accepted.{Accepted};
 ghost use Rattle.keys.specs.Keys.{PackedAs};
 ghost use Rattle.classes.specs.Classes.{bedOf, outsideFive, isFLc};
-ghost use Rattle.selection.specs.Selection.{isClassed, passes, keptFlags, question10};
+ghost use Rattle.rules.specs.Rules.{isClassed, passes};
+ghost use Rattle.selection.specs.Selection.{keptFlags, question10};
 use layout::next_start;
 use region::RegionHorizontalState;
 use region::RegionSemanticState;
 use classes::is_flc;
 use classes::is_outside_five;
-use selection::Rule;
-use selection::is_classed;
-use selection::is_free;
-use selection::is_ground;
-use selection::rule_of;
-use selection::stays;
+use rules::Rule;
+use rules::is_classed;
+use rules::is_free;
+use rules::is_ground;
+use rules::rule_of;
+use rules::stays;
 
 // Whether none of the first names of a key is one that five-x has not.
 fn five_x(key: &[u64], used: usize) -> bool

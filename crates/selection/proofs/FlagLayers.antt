@@ -21,10 +21,11 @@ use Rattle.layout.proofs.TopologyStarts.{topologyAnchors}
 use Rattle.layout.proofs.TopologyFlat.{topology-length, topology-layer}
 use Rattle.layout.proofs.Sizes.{Sized}
 use Rattle.region.specs.declared.RegionSemanticState.{RegionSemanticState}
-use Rattle.selection.specs.declared.selection.Rule.{Rule}
+use Rattle.rules.specs.declared.rule.Rule.{Rule}
 use Rattle.region.specs.Zones.{isNoConstraints}
 use Rattle.classes.specs.Classes.{bedOf, fiveX, is222}
-use Rattle.selection.specs.Selection.{isClassed, stays, rowFlags, layerFlags, keptFlags, classedLayer, question10, ruleOf, passes}
+use Rattle.rules.specs.Rules.{isClassed, ruleOf, passes}
+use Rattle.selection.specs.Selection.{stays, rowFlags, layerFlags, keptFlags, classedLayer, question10}
 use Rattle.selection.proofs.Counts.{slice-past, starts-long as starts-long-4}
 use Rattle.selection.proofs.Tested.{rows-flags}
 use Rattle.selection.proofs.LayerAnchors.{layer-start-rises, layer-start-most, layer-start-first, layer-anchors}

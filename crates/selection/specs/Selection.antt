@@ -12,10 +12,8 @@ use Rattle.layout.specs.declared.Layout.{Layout}
 use Rattle.layout.specs.Topology.{TopologyRow, TopologyLayer, topologyOf}
 use Rattle.layout.specs.Questions.{firstNo}
 use Rattle.region.specs.declared.RegionSemanticState.{RegionSemanticState}
-use Rattle.selection.specs.declared.selection.Rule.{Rule}
 use Rattle.selection.specs.declared.Selected.{Selected}
-use Rattle.classes.specs.declared.Bed.{Bed}
-use Rattle.classes.specs.declared.Bed.the-variants.{Kept, Dropped, Unclassed}
+use Rattle.rules.specs.Rules.{isKept, isClassed}
 use Rattle.region.specs.Zones.{isInclude, isNoConstraints, isDefault}
 use Rattle.classes.specs.Classes.{bedOf, fiveX, is222}
 use Rattle.selection.specs.Select.{hasAnchors, hasRows, keptLayout}
@@ -27,16 +25,6 @@ upper l i y = cond (is222 l) (lt zero (y .z)) (eqb (l .depth) 2 && eqb i 1)
 -- and with FLc those with z < 0 keep all
 abbrev pub keepsAll : Layout → TopologyLayer → Bool
 keepsAll l y = is222 l && lt (y .z) zero
-
-abbrev pub isKept : Bed → Bool
-isKept Kept = true
-isKept Dropped = false
-isKept Unclassed = false
-
-abbrev pub isClassed : Bed → Bool
-isClassed Kept = true
-isClassed Dropped = true
-isClassed Unclassed = false
 
 -- Upper layers go whole under Exclude and else stay whole. Elsewhere an anchor without a class is dropped
 abbrev pub stays : RegionSemanticState → Layout → ℕ → TopologyLayer → Anchor → Bool
@@ -92,20 +80,3 @@ abbrev pub selectionOf : RegionSemanticState → Layout → Selected
 selectionOf s l =
     let n = selectionRefusal s l in
     record { refusal = n; chosen = cond (eqb n 0) (selectedLayout s l) l }
-
--- ---- what the parts of the code answer
-
--- the rule of layer i of depth, at height z: `stays` with what does not vary with the anchor worked out
-abbrev pub ruleOf : Bool → Bool → RegionSemanticState → ℕ → ℕ → Float → Rule
-ruleOf wide five s depth i z =
-    record {
-      upper = cond wide (lt zero z) (eqb depth 2 && eqb i 1);
-      include = isInclude (s .top);
-      whole = wide && lt z zero;
-      horizontal = s .horizontal;
-      five = five;
-    }
-
--- whether the anchor of a name stays by a rule
-abbrev pub passes : Rule → ℕ → Bool
-passes r n = cond (r .upper) (r .include) (r .whole || isKept (bedOf (r .horizontal) n (r .five)))

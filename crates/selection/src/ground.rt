@@ -7,41 +7,16 @@ ghost use lib.ListN.{length};
 ghost use lib.Seq.{slice};
 ghost use Rattle.doubles.specs.Arithmetic.{zero};
 ghost use Rattle.lists.specs.Lists.{all};
-ghost use Rattle.region.specs.Zones.{isNoConstraints};
 ghost use Rattle.classes.specs.Classes.{bedOf};
-ghost use Rattle.selection.specs.Selection.{isClassed, question10};
+ghost use Rattle.rules.specs.Rules.{isClassed};
+ghost use Rattle.selection.specs.Selection.{question10};
 use layout::Layout;
-use classes::Bed;
 use region::RegionHorizontalState;
 use region::RegionSemanticState;
 use classes::five_x;
-use classes::matches_bed_state;
-
-// Whether the speaker of a name has a class.
-pub fn is_classed(h: RegionHorizontalState, name: u64, five: bool) -> bool
-    ensures { λ r. ⌜ r ≡ isClassed (bedOf h name five) ⌝ }
-{
-    let b = matches_bed_state(h, name, five);
-    match b {
-        Bed::Kept => true,
-        Bed::Dropped => true,
-        Bed::Unclassed => false,
-    }
-}
-
-// Whether a horizontal state keeps all.
-pub fn is_free(h: RegionHorizontalState) -> bool
-    ensures { λ r. ⌜ r ≡ isNoConstraints h ⌝ }
-{
-    match h {
-        RegionHorizontalState::NoConstraints => true,
-        RegionHorizontalState::BackExcluded => false,
-        RegionHorizontalState::SideExcluded => false,
-        RegionHorizontalState::CentreAndBack => false,
-        RegionHorizontalState::ScreenOnly => false,
-        RegionHorizontalState::SurroundOnly => false,
-    }
-}
+use rules::is_classed;
+use rules::is_free;
+use rules::is_ground;
 
 // Whether each name from at up to end has a class.
 fn all_classed(names: &[u64], at: usize, end: usize, h: RegionHorizontalState, five: bool) -> bool
@@ -56,13 +31,6 @@ fn all_classed(names: &[u64], at: usize, end: usize, h: RegionHorizontalState, f
         a += 1;
     }
     true
-}
-
-// Whether a layer lies at z = 0.
-pub fn is_ground(z: f64) -> bool
-    ensures { λ r. ⌜ r ≡ eq z zero ⌝ }
-{
-    z == 0.0
 }
 
 // Whether a layer at z, with the names from at up to end, is not at z = 0 or they have a class.

@@ -12,93 +12,19 @@ ghost use Rattle.lists.specs.Lists.{all};
 ghost use Rattle.layout.specs.Questions.{firstNo};
 ghost use Rattle.layout.specs.Topology.{topologyOf};
 ghost use Rattle.region.specs.Zones.{isDefault};
-ghost use Rattle.classes.specs.Classes.{bedOf};
-ghost use Rattle.selection.specs.Selection.{isKept, ruleOf, passes, keptFlags, selectedTopology, selectionOf};
+ghost use Rattle.rules.specs.Rules.{passes};
+ghost use Rattle.selection.specs.Selection.{keptFlags, selectedTopology, selectionOf};
 use crate::Selected;
 use crate::ground::bed_classed;
 use crate::select::select_kept;
 use layout::Layout;
-use classes::Bed;
-use region::RegionHorizontalState;
 use region::RegionSemanticState;
 use classes::five_x;
 use classes::is_22_2;
 use region::is_default;
-use region::is_include;
-use classes::matches_bed_state;
-
-// How a layer keeps its anchors: an upper one goes or stays whole, others keep all or go by class.
-pub struct Rule {
-    upper: bool,
-    include: bool,
-    whole: bool,
-    horizontal: RegionHorizontalState,
-    five: bool,
-}
-
-fn is_upper(wide: bool, depth: usize, i: usize, z: f64) -> bool
-    ensures { λ r. ⌜ r ≡ cond wide (lt zero z) (eqb depth 2 && eqb i 1) ⌝ }
-{
-    if wide {
-        0.0 < z
-    } else {
-        (depth == 2) & (i == 1)
-    }
-}
-
-fn keeps_all(wide: bool, z: f64) -> bool
-    ensures { λ r. ⌜ r ≡ (wide && lt z zero) ⌝ }
-{
-    wide & (z < 0.0)
-}
-
-// The rule of layer i, at height z.
-pub fn rule_of(
-    wide: bool,
-    five: bool,
-    state: RegionSemanticState,
-    depth: usize,
-    i: usize,
-    z: f64,
-) -> Rule
-    ensures { λ r. ⌜ r ≡ ruleOf wide five state depth i z ⌝ }
-{
-    let upper = is_upper(wide, depth, i, z);
-    let top = state.top;
-    let include = is_include(top);
-    let whole = keeps_all(wide, z);
-    let horizontal = state.horizontal;
-    Rule {
-        upper: upper,
-        include: include,
-        whole: whole,
-        horizontal: horizontal,
-        five: five,
-    }
-}
-
-fn is_kept(h: RegionHorizontalState, name: u64, five: bool) -> bool
-    ensures { λ r. ⌜ r ≡ isKept (bedOf h name five) ⌝ }
-{
-    let b = matches_bed_state(h, name, five);
-    match b {
-        Bed::Kept => true,
-        Bed::Dropped => false,
-        Bed::Unclassed => false,
-    }
-}
-
-// Whether the anchor of a name stays.
-pub fn stays(rule: Rule, name: u64) -> bool
-    ensures { λ r. ⌜ r ≡ passes rule name ⌝ }
-{
-    let h = rule.horizontal;
-    if rule.upper {
-        rule.include
-    } else {
-        rule.whole | is_kept(h, name, rule.five)
-    }
-}
+use rules::Rule;
+use rules::rule_of;
+use rules::stays;
 
 // The flags with those of one layer, whose anchors are those from at up to end.
 fn flag_layer(flags: [bool; 24], names: &[u64], at: usize, end: usize, rule: Rule) -> [bool; 24]

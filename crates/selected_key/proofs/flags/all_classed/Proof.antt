@@ -11,7 +11,7 @@ use Rattle.lists.specs.Lists.{all}
 use Rattle.layout.proofs.QuestionsLoops.{all-not, all-next}
 use Rattle.region.specs.declared.RegionHorizontalState.{RegionHorizontalState}
 use Rattle.classes.specs.Classes.{bedOf}
-use Rattle.selection.specs.Selection.{isClassed}
+use Rattle.rules.specs.Rules.{isClassed}
 use Rattle.selection.proofs.Counts.{slice-past}
 use Rattle.selected_key.proofs.KeySums.{part-more}
 use Rattle.selected_key.proofs.flags.all_classed.Statement.{statement}

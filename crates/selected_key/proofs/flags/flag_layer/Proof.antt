@@ -5,7 +5,7 @@ use native.Mathlib.Omega.{arith}
 use borrow.Author.Needs.{needs}
 use lib.ListN.{length, drop, length-drop, length-set}
 use lib.Seq.{getD-drop}
-use Rattle.selection.specs.Selection.{passes}
+use Rattle.rules.specs.Rules.{passes}
 use Rattle.selection.proofs.FlagLayers.{Flagging, flag-none, flag-more, flag-done}
 use Rattle.selected_key.proofs.flags.flag_layer.Statement.{statement}
 use Rattle.selected_key.proofs.flags.flag_layer.Tie as tie

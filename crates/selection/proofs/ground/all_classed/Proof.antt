@@ -12,7 +12,7 @@ use Rattle.lists.proofs.Loops.{slice-more}
 use Rattle.layout.proofs.QuestionsLoops.{all-not, all-next}
 use Rattle.region.specs.declared.RegionHorizontalState.{RegionHorizontalState}
 use Rattle.classes.specs.Classes.{bedOf}
-use Rattle.selection.specs.Selection.{isClassed}
+use Rattle.rules.specs.Rules.{isClassed}
 use Rattle.selection.proofs.Counts.{slice-past}
 use Rattle.selection.proofs.ground.all_classed.Statement.{statement}
 use Rattle.selection.proofs.ground.all_classed.Tie as tie

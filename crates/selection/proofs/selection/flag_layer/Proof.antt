@@ -1,7 +1,7 @@
 -- What is written, what is left of the layer and what lies behind it make the whole.
 use Prim.Native.Nat.{_-_}
 use borrow.Author.Needs.{needs}
-use Rattle.selection.specs.Selection.{passes}
+use Rattle.rules.specs.Rules.{passes}
 use Rattle.selection.proofs.FlagLayers.{Flagging, flag-none, flag-more, flag-done}
 use Rattle.selection.proofs.selection.flag_layer.Statement.{statement}
 use Rattle.selection.proofs.selection.flag_layer.Tie as tie
