@@ -7,10 +7,10 @@ ghost use lib.Ieee.{binary64, fin, lt, le, toSigned};
 ghost use Rattle.doubles.specs.Power.{pow2Of};
 ghost use Rattle.approximations.specs.Exp2.{polynomialOf, finiteOrZero, NormalExponent, exp2Of};
 ghost use Rattle.approximations.specs.Powers.{inExponents};
-use doubles::pow2;
-use doubles::is_finite;
 use doubles::floor;
 use doubles::floor_near;
+use doubles::is_finite;
+use doubles::pow2;
 
 const A1: f64 = 0.686279297;
 

@@ -4,8 +4,8 @@ ghost use mathlib.Core.Path.{_≡_};
 ghost use lib.Dec.{T};
 ghost use Rattle.approximations.specs.Log2.{log2By, log2Of, inNormal};
 use doubles::floor_log2;
-use doubles::pow2;
 use doubles::is_finite;
+use doubles::pow2;
 
 const L1: f64 = 4.07934570;
 

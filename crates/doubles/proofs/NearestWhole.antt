@@ -59,7 +59,6 @@ round-to-whole f N D P lo hi =
 abbrev W : ℕ
 W = 3 * 2 ^ 51
 
-
 abbrev Shifted : ℕ → ℤ → Type 0
 Shifted g (pos q) = g ≡ W + q
 Shifted g (negsuc k) = g + suc k ≡ W

@@ -16,8 +16,8 @@ ghost use Rattle.field.specs.Responses.{twoAt, below, pickOf, layerPick,
 use crate::Pick;
 use crate::knots::step;
 use approximations::cosine;
-use doubles::floor;
 use approximations::sine;
+use doubles::floor;
 
 const PI: f64 = 3.141592653589793;
 

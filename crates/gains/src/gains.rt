@@ -12,10 +12,10 @@ ghost use Rattle.gains.specs.Gains.{normalizedOf, blendOf, blended, zipp
 use crate::Blend;
 use crate::Centre;
 use crate::diffuse::diffuse;
-use doubles::clamp;
 use approximations::cosine;
-use doubles::is_finite;
 use approximations::sine;
+use doubles::clamp;
+use doubles::is_finite;
 use doubles::sqrt;
 
 const THRESHOLD: f64 = 2.5e-5;

@@ -14,12 +14,12 @@ ghost use Rattle.lists.specs.Lists.{bit};
 ghost use Rattle.layout.specs.Channels.{channelName};
 ghost use Rattle.layout.specs.Topology.{layerCount, rowCount, anchorName, layerZ, rowY, anchorX, startsFrom};
 ghost use Rattle.keys.specs.Keys.{keyWords, pattern, flagNumber, zPattern, yPattern, xPattern, twoParts, topologyParts, placesOver};
+use channels::covered;
 use layout::Anchor;
 use layout::Channel;
 use layout::Layer;
 use layout::Layout;
 use layout::Row;
-use channels::covered;
 use layout::covered_layers;
 use layout::next_start;
 

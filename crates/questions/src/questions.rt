@@ -12,13 +12,13 @@ ghost use Rattle.layout.specs.Questions.{firstNo, layoutQuestions, question1, q
 ghost use Rattle.layout.specs.Accepted.{Accepted};
 use crate::numbers::all_distinct;
 use crate::numbers::is_ordered;
-use layout::Layout;
 use channels::active_count;
 use channels::active_names;
-use layout::anchor_starts;
-use layout::anchor_total;
 use channels::is_name;
 use channels::place_of;
+use layout::Layout;
+use layout::anchor_starts;
+use layout::anchor_total;
 use layout::row_starts;
 use layout::row_total;
 use walk::anchor_names;

@@ -9,12 +9,12 @@
 // speaker of that name, without five-x and with it: 0 dropped, 1 kept, 2 no class. 912 selects by a
 // state, the number of the horizontal state doubled and 1 more where top is Include: it writes the
 // refusal, and where that is 0 how many layers, rows and anchors are selected and a hash over them.
+use classes::Bed;
 use layout::Anchor;
 use layout::Channel;
 use layout::Layout;
 use libc::STDIN_FILENO;
 use libc::STDOUT_FILENO;
-use classes::Bed;
 use region::RegionHorizontalState;
 use region::RegionSemanticState;
 use region::RegionTopBottomState;

@@ -17,10 +17,10 @@ ghost use Rattle.selection.specs.Selection.{keptFlags, selectedTopology,
 use crate::Selected;
 use crate::ground::bed_classed;
 use crate::select::select_kept;
-use layout::Layout;
-use region::RegionSemanticState;
 use classes::five_x;
 use classes::is_22_2;
+use layout::Layout;
+use region::RegionSemanticState;
 use region::is_default;
 use rules::Rule;
 use rules::rule_of;

@@ -2,10 +2,10 @@
 ghost use mathlib.Core.Path.{_≡_};
 ghost use mathlib.Core.List.{map};
 ghost use Rattle.layout.specs.Topology.{layerStarts, anchorPlace, layerZ, rowY, anchorX, anchorName};
-use layout::Layout;
 use channels::active_names;
-use layout::anchor_starts;
 use channels::place_of;
+use layout::Layout;
+use layout::anchor_starts;
 use layout::row_starts;
 
 // z of each layer.
