@@ -1,13 +1,12 @@
 -- What is kept by the flags of a state is the selected layout, and how many layers it has answers question 9.
 use Prim.Native.Nat.{ℕ, _≤_, min}
-use mathlib.Core.Path.{_≡_, sym, ap, ap₂, _∙_}
+use mathlib.Core.Path.{_≡_, sym, ap, _∙_}
 use mathlib.Core.Bool.{Bool, true, false}
-use mathlib.Core.List.{List, _++_, append-nil}
+use mathlib.Core.List.{List}
 use native.Mathlib.Omega.{arith}
 use borrow.Author.Tests.{le-leb, lt-leb}
 use lib.Ieee.{Float}
-use lib.ListN.{length, drop, getD}
-use lib.Seq.{paste, take-all, drop-length}
+use lib.ListN.{getD}
 use Rattle.layout.specs.declared.Layout.{Layout}
 use Rattle.layout.specs.Accepted.{Accepted}
 use Rattle.layout.proofs.Sizes.{Sized}
@@ -60,10 +59,5 @@ module _ (s : RegionSemanticState) (l : Layout) (epoch : ℕ) (key : List ℕ) (
       (λ z. let n = ac .someLayers in absurd (omega (arith, z, n)))
       (default-ten s l is)
 
-  pub default-key : (old out : List ℕ) → length old ≡ 156 → out ≡ paste old 0 key 156 → out ≡ keyWords (selectedLayout s l) epoch
-  default-key old out h e =
-      e
-      ∙ ap₂ (λ (a b : List ℕ). a ++ b) (take-all 156 key (omega (arith, packed-reads l epoch key places w ac .long))) (ap (λ (n : ℕ). drop n old) (sym h) ∙ drop-length old)
-      ∙ append-nil key
-      ∙ w .words
-      ∙ ap (λ (x : Layout). keyWords x epoch) (sym (selected-default s l is))
+  pub default-key : key ≡ keyWords (selectedLayout s l) epoch
+  default-key = w .words ∙ ap (λ (x : Layout). keyWords x epoch) (sym (selected-default s l is))

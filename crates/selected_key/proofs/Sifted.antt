@@ -1,4 +1,4 @@
--- A loop over n entries of two lists writes those whose flags are set into two parts of a key.
+-- A loop over n entries of two lists writes those whose flags are set to the front of two parts of a key, over what is read already.
 use Prim.Native.Nat.{ℕ, zero, suc, _+_, _<_, _≤_}
 use mathlib.Core.Path.{_≡_, refl, sym, ap, _∙_}
 use mathlib.Core.Bool.{Bool, true, false}
@@ -6,12 +6,13 @@ use mathlib.Core.List.{List, [], _∷_, _++_}
 use native.Mathlib.Numerals.{add-one}
 use native.Mathlib.Omega.{arith}
 use lib.ListN.{length, take, set, getD, length-append}
-use lib.Seq.{paste, paste-zero, take-append-le, take-all, getD-at}
-use Rattle.keys.specs.Keys.{twoParts}
+use lib.Seq.{paste, paste-zero, take-append-le, take-all, getD-at, getD-set-other}
+use Rattle.keys.specs.Keys.{filledTo, twoParts}
 use Rattle.keys.proofs.KeyParts.{Packed, packed-more}
 use Rattle.selection.specs.Select.{picked}
 use Rattle.selection.proofs.Picks.{none-picked}
 use Rattle.selected_key.specs.Kept.{pickedParts}
+use Rattle.selected_key.proofs.Apart.{two-between, two-behind}
 
 -- ---- one entry more
 picked-keep : {A : Type 0} (bs : List Bool) (xs : List A) (i : ℕ) (d : A) → i < length bs → i < length xs → getD bs i false ≡ true → picked bs (take (suc i) xs) ≡ picked bs (take i xs) ++ (getD xs i d ∷ [])
@@ -114,12 +115,32 @@ module _ (a b n : ℕ) (bs : List Bool) (xs ys old : List ℕ) where
           same = rw (add-one i, p, q) (after .same);
         })
 
-    pub sifted-done : n ≤ i → key ≡ pickedParts a b bs xs ys old
-    sifted-done h =
-        let p : take i xs ≡ xs = take-all i xs (omega (arith, w .firsts)) in
-        let q : take i ys ≡ ys = take-all i ys (omega (arith, w .seconds)) in
-        let e : length (picked bs xs) ≡ k = ap (λ (l : List ℕ). length (picked bs l)) (sym p) ∙ w .written in
-        rw e (rw (p, q) at (w .same))
+    -- what is left to be read is as it was
+    pub sifted-first : i < n → getD key (a + i) 0 ≡ getD old (a + i) 0
+    sifted-first h =
+        ap (λ (t : List ℕ). getD t (a + i) 0) (w .same)
+        ∙ two-between a b k (picked bs (take i xs)) (picked bs (take i ys)) old (omega (arith, w .written)) (omega (arith, w .beside)) (omega (arith, w .few, w .apart)) (omega (arith, w .few, w .room)) (a + i) (omega (arith, w .few)) (omega (arith, w .apart))
 
-    pub sifted-count : n ≤ i → k ≡ length (picked bs xs)
-    sifted-count h = sym (w .written) ∙ ap (λ (l : List ℕ). length (picked bs l)) (take-all i xs (omega (arith, w .firsts)))
+    pub sifted-second : (j x : ℕ) → j < b → i < n → getD (set key j x) (b + i) 0 ≡ getD old (b + i) 0
+    sifted-second j x f h =
+        getD-set-other key j (b + i) x 0 (λ e. omega (arith, e))
+        ∙ ap (λ (t : List ℕ). getD t (b + i) 0) (w .same)
+        ∙ two-behind a b k (picked bs (take i xs)) (picked bs (take i ys)) old (omega (arith, w .written)) (omega (arith, w .beside)) (omega (arith, w .few, w .apart)) (omega (arith, w .few, w .room)) (b + i) (omega (arith, w .few))
+
+    module _ (h : n ≤ i) where
+      firsts-all : take i xs ≡ xs
+      firsts-all = take-all i xs (omega (arith, w .firsts))
+
+      seconds-all : take i ys ≡ ys
+      seconds-all = take-all i ys (omega (arith, w .seconds))
+
+      pub sifted-count : k ≡ length (picked bs xs)
+      sifted-count = sym (w .written) ∙ ap (λ (l : List ℕ). length (picked bs l)) firsts-all
+
+      -- with what is left behind them cleared
+      pub sifted-done : (out : List ℕ) → length old ≡ 156 →
+          ((was us vs : List ℕ) → length was ≡ 156 → length us ≡ k → length vs ≡ k → key ≡ twoParts a us b vs k was → out ≡ twoParts a (filledTo n us) b (filledTo n vs) n was) → out ≡ pickedParts a b n bs xs ys old
+      sifted-done out o f =
+          f old (picked bs xs) (picked bs ys) o (sym sifted-count)
+          (ap (λ (l : List ℕ). length (picked bs l)) (sym seconds-all) ∙ w .beside)
+          (rw (firsts-all, seconds-all) at (w .same))

@@ -1,4 +1,4 @@
-// The key of the layout that a region state selects, from the key of the layout and its coordinates.
+// The key of a layout becomes, in place, that of the layout that a region state selects.
 ghost use mathlib.Core.Path.{_≡_};
 ghost use mathlib.Core.Bool.{false};
 ghost use Prim.Native.Nat.{ℕ, _≤_};
@@ -10,7 +10,6 @@ ghost use Rattle.region.specs.Zones.{isDefault};
 ghost use Rattle.selection.specs.Selection.{selectedLayout, selectionRefusal};
 use crate::flags::bed_classed;
 use crate::flags::kept_flags;
-use crate::kept::copy_first;
 use crate::kept::pack_kept;
 use channels::covered;
 use layout::covered_layers;
@@ -20,62 +19,54 @@ use region::is_default;
 // Packs the key of the layout that a state other than the default selects; and how many layers are
 // left.
 fn pack_by_class(
-    key: &[u64],
+    key: &mut [u64],
     places: &[f64],
     used: usize,
     depth: usize,
     state: RegionSemanticState,
-    out: &mut [u64],
 ) -> usize
-    requires { ⌜ (length (now key) ≡ 156) × (length (now places) ≡ 52) × (length (now out) ≡ 156) × (used ≤ 24) × (depth ≤ 4) ⌝ }
-    ensures { λ r. ⌜ ((l : LayoutValue) (e : ℕ) → PackedAs l e (now (key .entry)) (now (places .entry)) → Accepted l → used ≡ l .used → depth ≡ l .depth → isDefault state ≡ false → (now (out .exit) ≡ keyWords (selectedLayout state l) e) × (r ≡ selectedLayout state l .depth)) ⌝ }
+    requires { ⌜ (length (now key) ≡ 156) × (length (now places) ≡ 52) × (used ≤ 24) × (depth ≤ 4) ⌝ }
+    ensures { λ r. ⌜ ((l : LayoutValue) (e : ℕ) → PackedAs l e (now (key .entry)) (now (places .entry)) → Accepted l → used ≡ l .used → depth ≡ l .depth → isDefault state ≡ false → (now (key .exit) ≡ keyWords (selectedLayout state l) e) × (r ≡ selectedLayout state l .depth)) ⌝ }
 {
     let mut flags = [false; 24];
     let kept: &mut [bool] = &mut flags;
     kept_flags(key, places, used, depth, state, kept);
-    pack_kept(key, kept, depth, out)
+    pack_kept(key, kept, depth)
 }
 
-// The same, and 0, or refusal 9 or 10.
+// The same, and 0, or refusal 9 or 10. Question 10 is asked of the key before it is packed.
 fn select_by_class(
-    key: &[u64],
+    key: &mut [u64],
     places: &[f64],
     used: usize,
     depth: usize,
     state: RegionSemanticState,
-    out: &mut [u64],
 ) -> u64
-    requires { ⌜ (length (now key) ≡ 156) × (length (now places) ≡ 52) × (length (now out) ≡ 156) × (used ≤ 24) × (depth ≤ 4) ⌝ }
-    ensures { λ r. ⌜ ((l : LayoutValue) (e : ℕ) → PackedAs l e (now (key .entry)) (now (places .entry)) → Accepted l → used ≡ l .used → depth ≡ l .depth → isDefault state ≡ false → (now (out .exit) ≡ keyWords (selectedLayout state l) e) × (r ≡ selectionRefusal state l)) ⌝ }
+    requires { ⌜ (length (now key) ≡ 156) × (length (now places) ≡ 52) × (used ≤ 24) × (depth ≤ 4) ⌝ }
+    ensures { λ r. ⌜ ((l : LayoutValue) (e : ℕ) → PackedAs l e (now (key .entry)) (now (places .entry)) → Accepted l → used ≡ l .used → depth ≡ l .depth → isDefault state ≡ false → (now (key .exit) ≡ keyWords (selectedLayout state l) e) × (r ≡ selectionRefusal state l)) ⌝ }
 {
-    if pack_by_class(key, places, used, depth, state, out) == 0 {
+    let classed = bed_classed(key, places, used, depth, state);
+    if pack_by_class(key, places, used, depth, state) == 0 {
         return 9;
     }
-    if !bed_classed(key, places, used, depth, state) {
+    if !classed {
         return 10;
     }
     0
 }
 
-// Packs the key of the layout that a state selects, from the key k of an accepted layout and its
-// coordinates p; 0, or refusal 9 or 10.
-pub fn pack_selected(
-    k: &[u64; 156],
-    p: &[f64; 52],
-    state: RegionSemanticState,
-    o: &mut [u64; 156],
-) -> u64
+// The key k of an accepted layout with the coordinates p becomes that of the layout that a state
+// selects; 0, or refusal 9 or 10.
+pub fn pack_selected(k: &mut [u64; 156], p: &[f64; 52], state: RegionSemanticState) -> u64
     ensures { λ r. ⌜ ((l : LayoutValue) (e : ℕ) → PackedAs l e (now (k .entry)) (now (p .entry)) → Accepted l → r ≡ selectionRefusal state l) ⌝ }
-    ensures key { λ r. ⌜ ((l : LayoutValue) (e : ℕ) → PackedAs l e (now (k .entry)) (now (p .entry)) → Accepted l → r ≡ 0 → now (o .exit) ≡ keyWords (selectedLayout state l) e) ⌝ }
+    ensures key { λ r. ⌜ ((l : LayoutValue) (e : ℕ) → PackedAs l e (now (k .entry)) (now (p .entry)) → Accepted l → r ≡ 0 → now (k .exit) ≡ keyWords (selectedLayout state l) e) ⌝ }
 {
-    let key: &[u64] = k;
-    let places: &[f64] = p;
-    let out: &mut [u64] = o;
     if is_default(state) {
-        copy_first(key, 156, out);
         return 0;
     }
+    let key: &mut [u64] = k;
+    let places: &[f64] = p;
     let used = covered(key[152] as usize);
     let depth = covered_layers(key[153] as usize);
-    select_by_class(key, places, used, depth, state, out)
+    select_by_class(key, places, used, depth, state)
 }

@@ -26,19 +26,18 @@ fn refused(q: u64) -> Plan
 // Questions 8 to 10.
 fn selected(
     flags: [bool; 6],
-    key: &[u64; 156],
+    key: &mut [u64; 156],
     places: &[f64; 52],
-    out: &mut [u64; 156],
     mean: u64,
     radius: f64,
 ) -> Plan
-    ensures { λ r. ⌜ ((l : LayoutValue) (epoch : ℕ) → PackedAs l epoch (now (key .entry)) (now (places .entry)) → Accepted l → ChosenBy l epoch flags (zoneQuestions l flags) mean radius (now (out .exit)) r) ⌝ }
+    ensures { λ r. ⌜ ((l : LayoutValue) (epoch : ℕ) → PackedAs l epoch (now (key .entry)) (now (places .entry)) → Accepted l → ChosenBy l epoch flags (zoneQuestions l flags) mean radius (now (key .exit)) r) ⌝ }
 {
     let zones = region::from_decoded_zones(flags);
     match zones {
         Zones::Refused(q) => refused(q),
         Zones::State(state) => {
-            let q = selected_key::pack_selected(key, places, state, out);
+            let q = selected_key::pack_selected(key, places, state);
             Plan {
                 refusal: q,
                 state: state,
@@ -49,19 +48,13 @@ fn selected(
     }
 }
 
-// Questions 7 to 10. The key of the selected layout goes to `out`.
-pub(crate) fn plan(
-    e: Extent,
-    flags: [bool; 6],
-    key: &[u64; 156],
-    places: &[f64; 52],
-    out: &mut [u64; 156],
-) -> Plan
-    ensures { λ r. ⌜ ((l : LayoutValue) (epoch : ℕ) → PackedAs l epoch (now (key .entry)) (now (places .entry)) → Accepted l → ChosenBy l epoch flags (objectQuestions l e flags) (meanOf e) (meanRadius (meanOf e)) (now (out .exit)) r) ⌝ }
+// Questions 7 to 10. The key becomes that of the selected layout.
+pub(crate) fn plan(e: Extent, flags: [bool; 6], key: &mut [u64; 156], places: &[f64; 52]) -> Plan
+    ensures { λ r. ⌜ ((l : LayoutValue) (epoch : ℕ) → PackedAs l epoch (now (key .entry)) (now (places .entry)) → Accepted l → ChosenBy l epoch flags (objectQuestions l e flags) (meanOf e) (meanRadius (meanOf e)) (now (key .exit)) r) ⌝ }
 {
     let reading = extent::read_extent(e);
     match reading {
         Reading::Refused(q) => refused(q),
-        Reading::Read(mean, radius) => selected(flags, key, places, out, mean, radius),
+        Reading::Read(mean, radius) => selected(flags, key, places, mean, radius),
     }
 }

@@ -300,12 +300,11 @@ pub fn project_outcome_with_epoch(
     if !questions::is_accepted(&packed, &places) {
         return refused(questions::first_no(l), r);
     }
-    let mut space = [0u64; 156];
-    let made = plan(e, flags, &packed, &places, &mut space);
+    let made = plan(e, flags, &mut packed, &places);
     if made.refusal != 0 {
         return refused(made.refusal, r);
     }
-    let key: &[u64] = &space;
+    let key: &[u64] = &packed;
     let s = ask_and_serve(
         lent,
         r,

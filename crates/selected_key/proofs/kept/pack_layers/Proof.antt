@@ -1,4 +1,4 @@
--- Of the first i layers those that keep rows are written, and `at` is where the rows of layer i begin.
+-- Of the first i layers those that keep rows stand in front, and `at` is where the rows of layer i begin.
 use Prim.Native.Nat.{ℕ, _-_, _+_, _<_, _≤_}
 use mathlib.Core.Path.{_≡_, refl, sym, _∙_}
 use mathlib.Core.List.{List, map}
@@ -12,7 +12,7 @@ use Rattle.selection.proofs.KeptCounts.{parts-long}
 use Rattle.selected_key.specs.Kept.{countsOf}
 use Rattle.selected_key.proofs.Positive.{positive-yes, positive-no}
 use Rattle.selected_key.proofs.Reached.{Reached, reached-none, reached-more, reached-count, part-at, part-long}
-use Rattle.selected_key.proofs.Sifted.{Sifted, sifted-none, sifted-keep, sifted-skip, sifted-done, sifted-count}
+use Rattle.selected_key.proofs.Sifted.{Sifted, sifted-none, sifted-keep, sifted-skip, sifted-first, sifted-second, sifted-done, sifted-count}
 use Rattle.selected_key.proofs.kept.pack_layers.Statement.{statement}
 use Rattle.selected_key.proofs.kept.pack_layers.Tie as tie
 
@@ -21,20 +21,19 @@ abbrev sizes : ℕ → List ℕ → List ℕ → List ℕ
 sizes n key counts = countsOf (slice 48 (48 + n) key) (map isPositive counts)
 
 abbrev Inv : tie.InvT-loop
-Inv key n counts out₀ k₀ at₀ i₀ out k at i =
-    (length key ≡ 156) × (n ≤ 4) × (length counts ≡ 24) × (length out₀ ≡ 156) × Reached (slice 48 (48 + n) key) n at i × Sifted 48 100 n (map isPositive (sizes n key counts)) (sizes n key counts) (slice 100 (100 + n) key) out₀ out k i
+Inv key₀ n counts k₀ at₀ i₀ key k at i =
+    (n ≤ 4) × (length counts ≡ 24) × (length key₀ ≡ 156) × Reached (slice 48 (48 + n) key₀) n at i × Sifted 48 100 n (map isPositive (sizes n key₀ counts)) (sizes n key₀ counts) (slice 100 (100 + n) key₀) key₀ key k i
 
 abbrev μ : tie.MeasureT-loop
-μ key n counts out₀ k₀ at₀ i₀ out k at i = n - i
+μ key₀ n counts k₀ at₀ i₀ key k at i = n - i
 
 holds : tie.Need-loop-holds Inv μ
 holds c =
-    let s = c .before .before .before .args in
+    let s = c .before .before .args in
     let ns = slice 48 (48 + s .n) (s .key .now) in
     let cs = countsOf ns (map isPositive (s .counts .now)) in
     let p = part-long 48 (s .n) (s .key .now) (omega arith) in
     let q : length cs ≡ s .n = parts-long ns (map isPositive (s .counts .now)) ∙ p in (
-      search needs,
       search needs,
       search needs,
       search needs,
@@ -44,27 +43,29 @@ holds c =
 
 again : tie.Need-loop-again Inv μ
 again c =
-    let g = c .before .before .before .before .before in
-    let s = g .before .before .before .before .args in
+    let b = c .before .before in
+    let g = b .before .before .before in
+    let s = g .before .before .before .args in
     let v = g .loop in
     let i = v .inv in
     let ns = slice 48 (48 + s .n) (s .key .now) in
     let fs = map isPositive (s .counts .now) in
     let cs = countsOf ns fs in
-    let p = part-at 48 (s .n) (s .key .now) (v .i) (omega arith) in
-    let e = c .before .before .next-start .ensures in
-    let q = c .before .count-positive .ensures ∙ reached-count ns (s .n) (v .at) (v .i) (i .4) fs _ _ (length-map (s .counts .now) isPositive ∙ i .2) (omega arith) p e in
-    let h : v .i < length cs = omega (arith, parts-long ns fs, i .4 .counts) in
-    let next = reached-more ns (s .n) (v .at) (v .i) (i .4) _ _ (omega arith) p e in
+    let p = sifted-first 48 100 _ _ _ _ _ (v .key) (v .k) (v .i) (i .4) (omega arith) ∙ part-at 48 (s .n) (s .key .now) (v .i) (omega arith) in
+    let e = b .next-start .ensures in
+    let q = c .before .count-positive .ensures ∙ reached-count ns (s .n) (v .at) (v .i) (i .3) fs _ _ (length-map (s .counts .now) isPositive ∙ i .1) (omega arith) p e in
+    let h : v .i < length cs = omega (arith, parts-long ns fs, i .3 .counts) in
+    let next = reached-more ns (s .n) (v .at) (v .i) (i .3) _ _ (omega arith) p e in
     ⊎-elim
-    (λ w. (i .0, i .1, i .2, i .3, next, sifted-keep 48 100 _ _ _ _ _ (v .out) (v .k) (v .i) (i .5) _ _ _ _ _ _ (w .2) (w .3) (omega arith) (positive-yes cs (v .i) h (λ z. w .0 .taken (q ∙ z))) refl refl q (part-at 100 (s .n) (s .key .now) (v .i) (omega arith))))
-    (λ w. (i .0, i .1, i .2, i .3, next, sifted-skip 48 100 _ _ _ _ _ (v .out) (v .k) (v .i) (i .5) _ _ (w .1) (w .2) (omega arith) (positive-no cs (v .i) h (sym q ∙ w .0 .left))))
+    (λ w. (i .0, i .1, i .2, next, sifted-keep 48 100 _ _ _ _ _ (v .key) (v .k) (v .i) (i .4) _ _ _ _ _ _ (w .2) (w .3) (omega arith) (positive-yes cs (v .i) h (λ z. w .0 .taken (q ∙ z))) refl refl q (sifted-second 48 100 _ _ _ _ _ (v .key) (v .k) (v .i) (i .4) (48 + v .k) _ (omega arith) (omega arith) ∙ part-at 100 (s .n) (s .key .now) (v .i) (omega arith))))
+    (λ w. (i .0, i .1, i .2, next, sifted-skip 48 100 _ _ _ _ _ (v .key) (v .k) (v .i) (i .4) _ _ (w .1) (w .2) (omega arith) (positive-no cs (v .i) h (sym q ∙ w .0 .left))))
     (c .if1 .came)
 
 returns : tie.Need-returns Inv μ
 returns c =
-    let v = c .before .loop in
-    (sifted-done 48 100 _ _ _ _ _ (v .out) (v .k) (v .i) (v .inv .5) (omega arith), sifted-count 48 100 _ _ _ _ _ (v .out) (v .k) (v .i) (v .inv .5) (omega arith))
+    let t = c .before .before in
+    let v = t .before .before .before .loop in
+    (sifted-done 48 100 _ _ _ _ _ (v .key) (v .k) (v .i) (v .inv .4) (omega arith) _ (v .inv .2) (t .clear-two .ensures), sifted-count 48 100 _ _ _ _ _ (v .key) (v .k) (v .i) (v .inv .4) (omega arith))
 
 pub pack-layers-spec : {M : Type 1} → statement M
 pack-layers-spec =
@@ -83,7 +84,7 @@ pack-layers-spec =
     (λ c. search needs)
     (λ c. search needs)
     (λ c. search needs)
-    (λ c. search needs)
+    (λ c. simp length-set (omega arith))
     (λ c. search needs)
     (λ c. search needs)
     (λ c. simp length-set (omega arith))
@@ -91,5 +92,6 @@ pack-layers-spec =
     (λ c. search needs)
     (λ c. search needs)
     again
+    (λ c κs. search needs)
     (λ c. search needs)
     returns)

@@ -17,10 +17,9 @@ returns c l e places w ac p q =
     let n = y .before .before .before .before .before in
     let s = n .before .before .before .before .before .before in
     let h = flags s in
-    let t = s .args in (
-      kept-topology l e (t .key .now) places w ac (t .kept .now) h (t .depth) (t .rows) _ p q (n .row-counts .ensures .0) _ _ _ _ _ (n .row-counts .ensures .1) (y .pack-layers .ensures .0) (r .pack-rows .ensures) (a .pack-anchors .ensures),
-      kept-number l e (t .key .now) places w ac (t .kept .now) h (t .depth) (t .rows) _ p q (n .row-counts .ensures .0) _ (y .pack-layers .ensures .1),
-    )
+    let t = s .args in
+    let d = kept-number l e (t .key .now) places w ac (t .kept .now) h (t .depth) (t .rows) _ p q (n .row-counts .ensures .0) _ (y .pack-layers .ensures .1) in
+    (kept-topology l e (t .key .now) places w ac (t .kept .now) h (t .depth) (t .rows) _ p q (n .row-counts .ensures .0) _ _ _ _ _ (n .row-counts .ensures .1) (y .pack-layers .ensures .0) (r .pack-rows .ensures) (a .pack-anchors .ensures) d, d)
 
 pub pack-topology-spec : {M : Type 1} → statement M
 pack-topology-spec =

@@ -51,9 +51,12 @@ good c =
     let e = a .is-accepted .ensures (g .args .l) (g .args .epoch) (packed-here (g .args .l) (sized g) (g .args .epoch) _ _ _ refl (p .0) (p .1)) in
     eqb-true _ 0 (sym e ∙ not-false (a .is-accepted .result) (c .if1 .left))
 
-chosen : (c : tie.After-plan) → ChosenBy (c .before .before .before .before .before .before .before .before .before .before .before .before .before .before .before .args .l) (c .before .before .before .before .before .before .before .before .before .before .before .before .before .before .before .args .epoch) (c .before .before .before .before .before .before .before .before .before .before .before .before .before .before .before .args .flags) (objectQuestions (c .before .before .before .before .before .before .before .before .before .before .before .before .before .before .before .args .l) (c .before .before .before .before .before .before .before .before .before .before .before .before .before .before .before .args .e) (c .before .before .before .before .before .before .before .before .before .before .before .before .before .before .before .args .flags)) (meanOf (c .before .before .before .before .before .before .before .before .before .before .before .before .before .before .before .args .e)) (meanRadius (meanOf (c .before .before .before .before .before .before .before .before .before .before .before .before .before .before .before .args .e))) (c .plan .last .1 .1 .1 .1 .0) (c .plan .result)
+abbrev begun : tie.After-plan → tie.Start
+begun c = c .before .before .before .before .before .before .before .before .before .before .before .before .before .before
+
+chosen : (c : tie.After-plan) → ChosenBy (begun c .args .l) (begun c .args .epoch) (begun c .args .flags) (objectQuestions (begun c .args .l) (begun c .args .e) (begun c .args .flags)) (meanOf (begun c .args .e)) (meanRadius (meanOf (begun c .args .e))) (c .plan .last .1 .1 .0) (c .plan .result)
 chosen c =
-    let x = c .before .before .before .before in
+    let x = c .before .before .before in
     let k = x .before .before .before .before in
     let g = k .before .before .before .before .before .before .before in
     let p = k .pack .ensures in
@@ -77,16 +80,16 @@ abbrev planned : tie.Else2 → tie.After-plan
 planned c = c .before .before
 
 abbrev start : tie.Else2 → tie.Start
-start c = planned c .before .before .before .before .before .before .before .before .before .before .before .before .before .before .before
+start c = begun (planned c)
 
 abbrev state : tie.Else2 → RegionSemanticState
 state c = stateIn (zonesOf (start c .args .flags))
 
 abbrev key : tie.Else2 → List ℕ
-key c = planned c .plan .last .1 .1 .1 .1 .0
+key c = planned c .plan .last .1 .1 .0
 
 yes : (c : tie.Else2) → firstNo (layoutQuestions (start c .args .l)) ≡ 0
-yes c = good (planned c .before .before .before .before)
+yes c = good (planned c .before .before .before)
 
 key-is : (c : tie.Else2) → key c ≡ keyWords (selectedLayout (state c) (start c .args .l)) (start c .args .epoch)
 key-is c = chosen (planned c) .1 (c .if2 .left) .1
@@ -97,15 +100,15 @@ key-long c = ap length (key-is c) ∙ key-length (selectedLayout (state c) (star
 n-is : (c : tie.Else2) → activeIn (key c) ≡ activeCount (start c .args .l)
 n-is c = key-active (start c .args .l) (sized (start c)) (state c) (start c .args .epoch) (key c) (key-is c)
 
-plan-is : (c : tie.After-plan) → c .plan .result .refusal ≡ firstNo (planQuestions (c .before .before .before .before .before .before .before .before .before .before .before .before .before .before .before .args .l) (c .before .before .before .before .before .before .before .before .before .before .before .before .before .before .before .args .e) (c .before .before .before .before .before .before .before .before .before .before .before .before .before .before .before .args .flags))
-plan-is c = with-layout (c .before .before .before .before .before .before .before .before .before .before .before .before .before .before .before .args .l) (c .before .before .before .before .before .before .before .before .before .before .before .before .before .before .before .args .e) (c .before .before .before .before .before .before .before .before .before .before .before .before .before .before .before .args .flags) (good (c .before .before .before .before)) _ (chosen c .0)
+plan-is : (c : tie.After-plan) → c .plan .result .refusal ≡ firstNo (planQuestions (begun c .args .l) (begun c .args .e) (begun c .args .flags))
+plan-is c = with-layout (begun c .args .l) (begun c .args .e) (begun c .args .flags) (good (c .before .before .before)) _ (chosen c .0)
 
 -- ---- the returns
 returns-2 : tie.Need-returns-2
 returns-2 c =
     let i = c .before in
     let m = i .before .before in
-    let s = m .before .before .before .before .before .before .before .before .before .before .before .before .before .before .before in
+    let s = begun m in
     plan-refuses (s .args .words .now) (s .args .r) (s .args .store .now) (s .args .l) (s .args .epoch) (s .args .e) (s .args .flags) (s .args .c) (s .args .points .now) (s .args .gains .now) _ _ (plan-is m) (i .if2 .taken) (c .refused2 .ensures)
 
 aggregate : tie.Need-slice-aggregate-key
@@ -149,7 +152,7 @@ build-requires c κs =
     let h = chosen m .1 (d .if2 .left) .0 in
     let l = s .args .l in
     let y = sized s in (
-      wide (m .before .before .before .before .before .before .before .before .before .before .before),
+      wide (m .before .before .before .before .before .before .before .before .before .before),
       a .0,
       a .1,
       a .2,
