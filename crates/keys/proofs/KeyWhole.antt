@@ -119,7 +119,7 @@ module _ (l : Layout) (s : Sized l) where
   layers-fit : length (usedLayers l) ≤ 4
   layers-fit = rw length-take (omega (arith, s .layers))
 
-  pub channels-written : (z c d e f g h t : List ℕ) → z ≡ replicate 24 0 → twoParts 0 (map channelName (l .channels)) 24 (map flagNumber (l .channels)) (length (channelsOf l)) (concat (z ∷ z ∷ c ∷ d ∷ e ∷ f ∷ g ∷ h ∷ t ∷ [])) ≡ concat (names l ∷ flags l ∷ c ∷ d ∷ e ∷ f ∷ g ∷ h ∷ t ∷ [])
+  channels-written : (z c d e f g h t : List ℕ) → z ≡ replicate 24 0 → twoParts 0 (map channelName (l .channels)) 24 (map flagNumber (l .channels)) (length (channelsOf l)) (concat (z ∷ z ∷ c ∷ d ∷ e ∷ f ∷ g ∷ h ∷ t ∷ [])) ≡ concat (names l ∷ flags l ∷ c ∷ d ∷ e ∷ f ∷ g ∷ h ∷ t ∷ [])
   channels-written z c d e f g h t q =
       let w = parts-long l s in
       two-filled (l .channels) (l .used) 24 (length (channelsOf l)) refl channels-fit channelName flagNumber (z ∷ z ∷ c ∷ d ∷ e ∷ f ∷ g ∷ h ∷ t ∷ []) 0 1 0 24 (omega arith) refl q (omega arith) (omega arith) q

@@ -59,7 +59,7 @@ fn select_by_class(
 // selects; 0, or refusal 9 or 10.
 pub fn pack_selected(k: &mut [u64; 156], p: &[f64; 52], state: RegionSemanticState) -> u64
     ensures { λ r. ⌜ ((l : LayoutValue) (e : ℕ) → PackedAs l e (now (k .entry)) (now (p .entry)) → Accepted l → r ≡ selectionRefusal state l) ⌝ }
-    ensures key { λ r. ⌜ ((l : LayoutValue) (e : ℕ) → PackedAs l e (now (k .entry)) (now (p .entry)) → Accepted l → r ≡ 0 → now (k .exit) ≡ keyWords (selectedLayout state l) e) ⌝ }
+    ensures key { λ r. ⌜ ((l : LayoutValue) (e : ℕ) → PackedAs l e (now (k .entry)) (now (p .entry)) → Accepted l → now (k .exit) ≡ keyWords (selectedLayout state l) e) ⌝ }
 {
     if is_default(state) {
         return 0;

@@ -11,7 +11,7 @@ returns c =
     let t = d .before .args in
     let is = sym (d .is-default .ensures) ∙ c .if1 .taken in (
       (λ l e w ac. default-passes (t .state) l e (t .k .now) (t .p .now) w ac is),
-      (λ l e w ac _. default-key (t .state) l e (t .k .now) (t .p .now) w ac is),
+      (λ l e w ac. default-key (t .state) l e (t .k .now) (t .p .now) w ac is),
     )
 
 returns-2 : tie.Need-returns-2
@@ -23,7 +23,7 @@ returns-2 c =
     let t = f .before .args in
     let o = sym (f .is-default .ensures) ∙ i .if1 .left in (
       (λ l e w ac. c .select-by-class .ensures l e w ac (used-covered l e (t .k .now) (t .p .now) w ac _ (u .covered .ensures)) (depth-covered l e (t .k .now) (t .p .now) w ac _ (d .covered-layers .ensures)) o .1),
-      (λ l e w ac _. c .select-by-class .ensures l e w ac (used-covered l e (t .k .now) (t .p .now) w ac _ (u .covered .ensures)) (depth-covered l e (t .k .now) (t .p .now) w ac _ (d .covered-layers .ensures)) o .0),
+      (λ l e w ac. c .select-by-class .ensures l e w ac (used-covered l e (t .k .now) (t .p .now) w ac _ (u .covered .ensures)) (depth-covered l e (t .k .now) (t .p .now) w ac _ (d .covered-layers .ensures)) o .0),
     )
 
 pub pack-selected-spec : {M : Type 1} → statement M

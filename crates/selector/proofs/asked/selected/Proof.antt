@@ -19,7 +19,7 @@ returns-2 c =
     let s = z .before in
     let e = z .from-decoded-zones .ensures in
     let k = c .pack-selected .ensures in
-    λ l epoch w a. selected-flags l epoch (s .args .flags) (s .args .mean) (s .args .radius) _ (a .fewLayers) _ _ _ (e .0) (e .1 .0) (t .before .zones2 .given .1) (k .0 l epoch w a) (k .1 l epoch w a)
+    λ l epoch w a. selected-flags l epoch (s .args .flags) (s .args .mean) (s .args .radius) _ (a .fewLayers) _ _ _ (e .0) (e .1 .0) (t .before .zones2 .given .1) (k .0 l epoch w a) (λ _. k .1 l epoch w a)
 
 pub selected-spec : {M : Type 1} → statement M
 selected-spec =
