@@ -1,3 +1,1 @@
-pub mod KeyCompare
-pub mod ActiveKeys
 pub mod Questions

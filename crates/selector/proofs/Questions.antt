@@ -1,7 +1,7 @@
 -- Lists of questions, and what an accepted call has said yes to. Assumes nothing.
 use Prim.Native.Nat.{ℕ, _+_, _≤_}
 use mathlib.Core.Path.{_≡_, refl, ap, _∙_}
-use mathlib.Core.Bool.{Bool, true, false, cond}
+use mathlib.Core.Bool.{Bool, true, cond}
 use mathlib.Core.List.{List, [], _∷_, _++_}
 use native.Mathlib.Omega.{arith}
 use lib.ListN.{length}
@@ -10,7 +10,9 @@ use Rattle.layout.specs.Questions.{Question, firstNo, layoutQuestions}
 use Rattle.extent.specs.Extent.{question7}
 use Rattle.region.specs.Zones.{question8}
 use Rattle.selection.specs.Selection.{question9, question10}
-use Rattle.selector.specs.Call.{Call, Found, stateOf, question11, question12, question13, question14, argumentQuestions, callQuestions}
+use Rattle.slots.specs.Serve.{question14}
+use Rattle.slots.proofs.Later.{yes-first}
+use Rattle.selector.specs.Call.{Call, Found, stateOf, question11, question12, question13, argumentQuestions, callQuestions}
 
 -- questions that are answered yes add nothing
 first-append : (qs rs : List Question) → firstNo rs ≡ 0 → firstNo (qs ++ rs) ≡ firstNo qs
@@ -21,10 +23,6 @@ first-append (q ∷ qs) rs e = ap (λ (n : ℕ). cond (q .yes) n (q .number)) (f
 abbrev pub Numbered : List Question → Type 0
 Numbered [] = Unit {0}
 Numbered (q ∷ qs) = (1 ≤ q .number) × Numbered qs
-
-pub yes-first : (b : Bool) (rest number : ℕ) → 1 ≤ number → cond b rest number ≡ 0 → (b ≡ true) × (rest ≡ 0)
-yes-first true rest number h e = (refl, e)
-yes-first false rest number h e = absurd (omega arith)
 
 pub first-front : (qs rs : List Question) → Numbered qs → firstNo (qs ++ rs) ≡ 0 → (firstNo qs ≡ 0) × (firstNo rs ≡ 0)
 first-front [] rs h e = (refl, e)

@@ -1,4 +1,3 @@
-pub mod Later
 pub mod Answers
 pub mod Words
 pub mod Whole

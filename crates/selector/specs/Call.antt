@@ -6,8 +6,6 @@ use lib.Dec.{eqb, leb, ltb}
 use lib.Ieee.{Float}
 use lib.Ieee.Scale.{finite}
 use lib.ListN.{length}
-use Rattle.doubles.specs.Arithmetic.{zero, dec}
-use Rattle.doubles.specs.Range.{between}
 use Rattle.lists.specs.Lists.{all}
 use Rattle.layout.specs.declared.Layout.{Layout}
 use Rattle.layout.specs.Channels.{activeCount}
@@ -21,13 +19,14 @@ use Rattle.region.specs.declared.RegionSemanticState.{RegionSemanticState}
 use Rattle.region.specs.declared.Zones.{Zones}
 use Rattle.region.specs.declared.Zones.the-variants.{State}
 use Rattle.region.specs.declared.Zones.the-variants as zones
-use Rattle.selector.specs.declared.Word.{Word}
-use Rattle.selector.specs.declared.Word.the-variants.{Unused, Kept, Built}
 use Rattle.selector.specs.declared.Outcome.{Outcome}
 use Rattle.selector.specs.declared.Outcome.the-variants.{Refused, Gains}
 use Rattle.region.specs.Zones.{zonesOf, question8, defaultState}
 use Rattle.selection.specs.Selection.{question9, question10, selectedLayout}
 use Rattle.keys.specs.Keys.{keyWords, withKey, findFrom, upTo}
+use Rattle.slots.specs.declared.Word.{Word}
+use Rattle.slots.specs.declared.Word.the-variants.{Unused, Kept, Built}
+use Rattle.slots.specs.Serve.{isGain, question14}
 
 -- what a call brings, all but selector and store
 pub record Call : Type 0 where
@@ -63,11 +62,7 @@ answered c = activeCount (c .layout)
 abbrev pub question11 : Call → Bool
 question11 c = finite (c .centre .x) && finite (c .centre .y) && finite (c .centre .z)
 
--- finite, and from 0 to 5/4
-abbrev pub isGain : Float → Bool
-isGain g = finite g && between zero (dec 125 2) g
-
--- 12. Are there exactly n point gains, each finite and from 0 to 5/4?
+-- 12. Are there exactly n point gains, each finite and from 0 to 5/4? isGain of slots/specs/Serve.antt
 abbrev pub question12 : Call → Bool
 question12 c = eqb (length (c .points)) (answered c) && all isGain (c .points)
 
@@ -75,9 +70,7 @@ question12 c = eqb (length (c .points)) (answered c) && all isGain (c .points)
 abbrev pub question13 : Call → ℕ → Bool
 question13 c size = leb (answered c) (length (c .gains)) && leb 285312 size
 
--- 14. Does the state hold at most eight keys and an oldest place below eight?
-abbrev pub question14 : ℕ → ℕ → Bool
-question14 count oldest = leb count 8 && ltb oldest 8
+-- 14. Does the state hold at most eight keys and an oldest place below eight? question14 of slots/specs/Serve.antt
 
 -- questions 1 to 13 are about the arguments and the length of the store alone
 unfoldable pub argumentQuestions : Call → ℕ → List Question

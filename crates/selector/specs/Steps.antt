@@ -1,40 +1,27 @@
 -- What the parts of the call work with: its arguments as they are lent. Definitions only.
-use Prim.Native.Nat.{ℕ, _+_, _%_, min}
+use Prim.Native.Nat.{ℕ, _+_, _%_}
 use mathlib.Core.Path.{_≡_}
-use mathlib.Core.Bool.{Bool, true, false, _&&_, cond}
+use mathlib.Core.Bool.{Bool, true, false, cond}
 use mathlib.Core.List.{List, [], _∷_, _++_}
-use lib.Dec.{eqb, leb, ltb}
+use lib.Dec.{ltb}
 use lib.Ieee.{Float}
-use lib.Ieee.Scale.{finite}
-use lib.ListN.{length, getD, replicate}
-use lib.Seq.{slice}
+use lib.ListN.{replicate}
 use Rattle.doubles.specs.Arithmetic.{zero}
-use Rattle.lists.specs.Lists.{all, filter}
 use Rattle.layout.specs.declared.Layout.{Layout}
 use Rattle.layout.specs.Questions.{Question, firstNo, layoutQuestions}
 use Rattle.extent.specs.declared.Extent.{Extent}
 use Rattle.extent.specs.Extent.{question7}
 use Rattle.gains.specs.declared.Centre.{Centre}
-use Rattle.gains.specs.Gains.{projected}
 use Rattle.region.specs.Zones.{zonesOf, question8, defaultState}
 use Rattle.selection.specs.Selection.{question9, question10, selectedLayout}
-use Rattle.keys.specs.Keys.{keyWords, findFrom, upTo}
+use Rattle.keys.specs.Keys.{keyWords}
+use Rattle.slots.specs.declared.Ring.{Ring}
+use Rattle.slots.specs.declared.Word.{Word}
+use Rattle.slots.specs.declared.Word.the-variants.{Unused, Kept, Built}
 use Rattle.selector.specs.declared.Plan.{Plan}
 use Rattle.selector.specs.declared.Reply.{Reply}
-use Rattle.selector.specs.declared.Ring.{Ring}
 use Rattle.selector.specs.declared.Selector.{Selector}
-use Rattle.selector.specs.declared.Word.{Word}
-use Rattle.selector.specs.declared.Word.the-variants.{Unused, Kept, Built}
-use Rattle.selector.specs.Call.{Call, Found, Wanted, Answer, isGain, stateIn, question14, outcomeOf}
-
--- questions 11 to 14
-unfoldable pub laterQuestions : Centre → List Float → ℕ → ℕ → ℕ → Ring → List Question
-laterQuestions c points n slots size r =
-    record { number = 11; yes = finite (c .x) && finite (c .y) && finite (c .z) }
-    ∷ record { number = 12; yes = eqb (length points) n && all isGain points }
-    ∷ record { number = 13; yes = leb n slots && leb 285312 size }
-    ∷ record { number = 14; yes = question14 (r .count) (r .oldest) }
-    ∷ []
+use Rattle.selector.specs.Call.{Call, Found, Wanted, Answer, stateIn, outcomeOf}
 
 -- questions 8 to 10, 7 to 10, and 1 to 10
 unfoldable pub zoneQuestions : Layout → List Bool → List Question
@@ -81,28 +68,10 @@ foundBy words r store = record { words = words; count = r .count; oldest = r .ol
 abbrev pub wantedBy : Layout → ℕ → ℕ → ℕ → Float → Centre → List Float → List Float → Wanted
 wantedBy l epoch n mean radius c points gains = record { layout = l; epoch = epoch; n = n; mean = mean; radius = radius; centre = c; points = points; gains = gains }
 
--- how many channels of a key are active: enabled and not LFE
-abbrev pub activeIn : List ℕ → ℕ
-activeIn key = length (filter (eqb 1) (slice 24 (24 + min (getD key 152 0) 24) key))
-
--- where a key stands among those held; 8 where it is missing
-abbrev pub slotOf : List ℕ → Ring → List ℕ → ℕ
-slotOf words r key = findFrom words key (r .oldest) (upTo (r .count))
-
--- the word by the mean and the slot
-abbrev pub wordBy : ℕ → ℕ → Word
-wordBy mean p = cond (eqb mean 0) Unused (cond (ltb p 8) Kept Built)
-
 abbrev pub isBuilt : Word → Bool
 isBuilt Unused = false
 isBuilt Kept = false
 isBuilt Built = true
-
--- the gains by the mean and the slot; those of a field that is still to be built are not there yet
-abbrev pub gainsSoFar : List Float → List ℕ → ℕ → ℕ → ℕ → Float → Centre → List Float → List Float → List Float
-gainsSoFar store key p n mean radius c points gains =
-    let by : ℕ → List Float = λ (q : ℕ). projected store q n (ltb 1 (getD key 153 0)) mean radius c points gains in
-    cond (eqb mean 0) (by 0) (cond (ltb p 8) (by p) gains)
 
 -- ---- a selector by value
 

@@ -5,31 +5,19 @@ ghost use Rattle.selector.specs.Steps.{callBy, freshSelector, foundIn, s
 
 mod asked;
 mod call;
-mod slots;
 
 pub use call::project_outcome_with_epoch;
 use extent::Extent;
 use gains::Centre;
 use layout::Layout;
 use region::RegionSemanticState;
-
-// What an accepted call says of its field.
-pub enum Word {
-    Unused,
-    Kept,
-    Built,
-}
+pub use slots::Ring;
+pub use slots::Word;
 
 // The answer of a call: the number of the refusal, or how many gains and a word.
 pub enum Outcome {
     Refused(u64),
     Gains(usize, Word),
-}
-
-// How many keys a selector holds, and which place is the oldest.
-pub struct Ring {
-    pub count: usize,
-    pub oldest: usize,
 }
 
 // What a call answers, with the ring that it leaves.
@@ -116,12 +104,4 @@ struct Plan {
     state: RegionSemanticState,
     mean: u64,
     radius: f64,
-}
-
-// What questions 11 to 14 and the search leave: the number of the first no, 0 where there is none, and
-// then n and the word. With `Built` the gains are still to be had.
-struct Served {
-    refusal: u64,
-    n: usize,
-    word: Word,
 }

@@ -16,10 +16,11 @@ use Rattle.layout.specs.Same.{sameLayout}
 use Rattle.extent.specs.Extent.{meanOf}
 use Rattle.field.specs.Place.{filled}
 use Rattle.field_laws.proofs.SamePlaces.{same-filled}
-use Rattle.selector.specs.declared.Word.{Word}
-use Rattle.selector.specs.declared.Word.the-variants.{Unused, Kept, Built}
+use Rattle.slots.specs.declared.Word.{Word}
+use Rattle.slots.specs.declared.Word.the-variants.{Unused, Kept, Built}
 use Rattle.keys.specs.Keys.{keyWords, keyAt, withKey}
-use Rattle.selector.specs.Call.{Call, Found, Answer, isGain, answered, placeOfKey, selectedOf, wanted, keyOf, gainsBy, built, refusedBy, acceptedWith, served, answerOf}
+use Rattle.slots.specs.Serve.{isGain}
+use Rattle.selector.specs.Call.{Call, Found, Answer, answered, placeOfKey, selectedOf, wanted, keyOf, gainsBy, built, refusedBy, acceptedWith, served, answerOf}
 use Rattle.selector_law.specs.Rule.{Key, packedKey, sameKey, callKey, KeptList, none, refusalBy, isHeld, leaves, isFull, withNew, afterCall, storeAfter, wordsAfter, wordBy, fresh, Typed, Right}
 use Rattle.selector_law.proofs.KeyLaws.{Sound, key-same, same-key, find-place, find-where, find-none}
 use Rattle.selector.proofs.Questions.{asked-alone, Said, said}

@@ -11,7 +11,8 @@ use Rattle.layout.specs.Build.{emptyLayout}
 use Rattle.field.specs.Place.{filled}
 use Rattle.field_laws.proofs.Filling.{fill-twice, fill-other}
 use Rattle.keys.specs.Keys.{keyAt, withKey}
-use Rattle.selector.specs.Call.{Found, question14}
+use Rattle.slots.specs.Serve.{question14}
+use Rattle.selector.specs.Call.{Found}
 use Rattle.selector_law.specs.Rule.{Key, packedKey, KeptList, heldKeys, none, fresh}
 use Rattle.selector_law.proofs.Places.{grown, turned, listed-up}
 use Rattle.selector_law.proofs.KeyLaws.{Sound, key-length, with-length, with-here, with-other}

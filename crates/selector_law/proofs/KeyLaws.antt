@@ -32,7 +32,7 @@ use Rattle.layout.proofs.SameLaws.{same-whole, same-shared}
 use Rattle.keys.specs.Keys.{flagNumber, keyWords, pattern, zPattern, yPattern, xPattern, keyAt, withKey, findFrom, upTo}
 use Rattle.keys.proofs.KeyPatterns.{eq-pattern}
 use Rattle.selector_law.proofs.KeyEntries.{apart-behind, entries-same, channel-closes, place, place-eq, all-places, taken-same, numbers-same}
-use Rattle.selector.proofs.KeyCompare.{same-equal, equal-same, eight-at}
+use Rattle.slots.proofs.KeyCompare.{same-equal, equal-same, eight-at}
 use Rattle.keys.proofs.KeyWhole as whole
 use Rattle.keys.proofs.KeyWhole.{names, flags, layerCounts, rowCounts, anchorNames, zs, ys, xs, parts-long, parts}
 

@@ -29,7 +29,8 @@ use Rattle.selection.specs.Select.{keptLayout}
 use Rattle.selection.specs.Selection.{keptFlags, selectedLayout}
 use Rattle.region.specs.Zones.{isDefault}
 use Rattle.selection.proofs.Selections.{selected-sized, selected-accepted, selected-zs-fit, selected-ys-fit, selected-xs-fit}
-use Rattle.selector.specs.Call.{Call, isGain, stateOf, answered, question12, question13, selectedOf, wanted, gainsBy}
+use Rattle.slots.specs.Serve.{isGain}
+use Rattle.selector.specs.Call.{Call, stateOf, answered, question12, question13, selectedOf, wanted, gainsBy}
 use Rattle.selector_law.specs.Rule.{Typed}
 use Rattle.selector.proofs.Questions.{Said}
 use Rattle.selector_law.proofs.KeyLaws.{Sound}

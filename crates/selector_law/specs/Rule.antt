@@ -16,10 +16,11 @@ use Rattle.layout.specs.Topology.{layerZ, rowY, anchorX}
 use Rattle.layout.specs.Questions.{firstNo}
 use Rattle.extent.specs.Extent.{meanOf}
 use Rattle.field.specs.Place.{filled}
-use Rattle.selector.specs.declared.Word.{Word}
-use Rattle.selector.specs.declared.Word.the-variants.{Unused, Kept, Built}
+use Rattle.slots.specs.declared.Word.{Word}
+use Rattle.slots.specs.declared.Word.the-variants.{Unused, Kept, Built}
 use Rattle.keys.specs.Keys.{keyWords, keyAt, withKey, upTo}
-use Rattle.selector.specs.Call.{Call, Found, Answer, isGain, answerOf, answered, argumentQuestions, selectedOf}
+use Rattle.slots.specs.Serve.{isGain}
+use Rattle.selector.specs.Call.{Call, Found, Answer, answerOf, answered, argumentQuestions, selectedOf}
 
 -- key: selected layout and epoch, doubles compared as numbers
 pub record Key : Type 0 where

@@ -25,7 +25,8 @@ use Rattle.selector.specs.declared.Plan.{Plan}
 use Rattle.selector.specs.Call.{stateIn}
 use Rattle.selector.specs.Steps.{zoneQuestions, objectQuestions, refusedPlan, ChosenBy}
 use Rattle.keys.specs.Keys.{keyWords}
-use Rattle.selector.proofs.Questions.{Numbered, yes-first}
+use Rattle.slots.proofs.Later.{yes-first}
+use Rattle.selector.proofs.Questions.{Numbered}
 
 -- ---- a list of questions with a no among the first
 pub first-stays : (qs rs : List Question) → (firstNo qs ≡ 0 → ⊥) → firstNo (qs ++ rs) ≡ firstNo qs

@@ -13,11 +13,11 @@ use Rattle.layout.specs.Questions.{firstNo, layoutQuestions}
 use Rattle.field.specs.Place.{filled, fillable}
 use Rattle.gains.specs.declared.Centre.{Centre}
 use Rattle.gains.specs.Gains.{projected}
+use Rattle.keys.specs.Keys.{keyWords, withKey, findFrom, upTo}
+use Rattle.slots.specs.declared.Ring.{Ring}
+use Rattle.slots.specs.declared.Word.the-variants.{Unused, Kept, Built}
 use Rattle.selector.specs.declared.Outcome.the-variants.{Gains}
 use Rattle.selector.specs.declared.Reply.{Reply}
-use Rattle.selector.specs.declared.Ring.{Ring}
-use Rattle.selector.specs.declared.Word.the-variants.{Unused, Kept, Built}
-use Rattle.keys.specs.Keys.{keyWords, withKey, findFrom, upTo}
 use Rattle.selector.specs.Call.{Answer, Found, Wanted, keyOf, placeOfKey, newPlace, built, acceptedWith, keyed, served}
 use Rattle.selector.specs.Steps.{ringAfter, wantedBy, foundBy, replyOf}
 
@@ -33,7 +33,7 @@ module _ (words : List ℕ) (r : Ring) (store : List Float) (l : Layout) (key : 
   fills : (p : ℕ) → p < 8 → 285312 ≤ length store → firstNo (layoutQuestions l) ≡ 0 → fillable l p store ≡ true
   fills p low big z = rw (eq-eqb (firstNo (layoutQuestions l)) 0 z, le-leb 285312 (length store) big, lt-ltb p 8 low)
 
-  pub built-leaves : (at : ℕ) (ring : Ring) (words' : List ℕ) (store' gains' : List Float) → 285312 ≤ length store → firstNo (layoutQuestions l) ≡ 0 → at ≡ place → store' ≡ cond (fillable l at store) (filled l at store) store → words' ≡ withKey words at key → gains' ≡ projected store' at n (ltb 1 (l .depth)) mean radius c points gains → ring ≡ ringAfter r → (_≡_ {A = Reply} (record { outcome = Gains n Built; ring = ring }) (record { outcome = Gains n Built; ring = ringAfter r })) × ((words' ≡ withKey words place key) × ((store' ≡ filled l place store) × (gains' ≡ projected (filled l place store) place n (ltb 1 (l .depth)) mean radius c points gains)))
+  pub built-leaves : (at : ℕ) (ring : Ring) (words' : List ℕ) (store' gains' : List Float) → 285312 ≤ length store → firstNo (layoutQuestions l) ≡ 0 → at ≡ place → store' ≡ cond (fillable l at store) (filled l at store) store → words' ≡ cond (ltb at 8) (withKey words at key) words → gains' ≡ projected store' at n (ltb 1 (l .depth)) mean radius c points gains → ring ≡ ringAfter r → (_≡_ {A = Reply} (record { outcome = Gains n Built; ring = ring }) (record { outcome = Gains n Built; ring = ringAfter r })) × ((words' ≡ withKey words place key) × ((store' ≡ filled l place store) × (gains' ≡ projected (filled l place store) place n (ltb 1 (l .depth)) mean radius c points gains)))
   built-leaves at ring words' store' gains' big z a f w g e =
       let s : store' ≡ filled l place store =
       f
@@ -41,7 +41,9 @@ module _ (words : List ℕ) (r : Ring) (store : List Float) (l : Layout) (key : 
       ∙ ap (λ (b : Bool). cond b (filled l place store) store) (fills place (omega arith) big z) in (
         ap (λ (x : Ring). record { outcome = Gains n Built; ring = x }) e,
         (
-          w ∙ ap (λ (p : ℕ). withKey words p key) a,
+          w
+              ∙ ap (λ (p : ℕ). cond (ltb p 8) (withKey words p key) words) a
+              ∙ ap (λ (b : Bool). cond b (withKey words place key) words) (lt-ltb place 8 (omega arith)),
           (s, g ∙ ap₂ (λ (t : List Float) (p : ℕ). projected t p n (ltb 1 (l .depth)) mean radius c points gains) s a),
         ),
       )

@@ -1,11 +1,11 @@
 -- The whole call: fourteen questions, and then the gains. Assumes nothing.
-use Prim.Native.Nat.{ℕ, _≤_, _<_}
+use Prim.Native.Nat.{ℕ, _≤_}
 use mathlib.Core.Path.{_≡_, refl, sym, ap, ap₂, _∙_, subst}
 use mathlib.Core.Bool.{Bool, true, cond}
 use mathlib.Core.List.{List, [], _∷_, _++_, map, append-assoc}
 use native.Mathlib.Omega.{arith}
-use borrow.Author.Tests.{leb-true, ltb-true, ne-eqb, le-ltb}
-use lib.Dec.{eqb, leb, ltb}
+use borrow.Author.Tests.{ne-eqb, le-ltb}
+use lib.Dec.{eqb, ltb}
 use lib.Ieee.{Float}
 use lib.ListN.{length, getD, take}
 use Rattle.layout.specs.declared.Layout.{Layout}
@@ -13,7 +13,6 @@ use Rattle.lists.specs.Lists.{filter}
 use Rattle.layout.specs.declared.Channel.{Channel}
 use Rattle.layout.specs.Channels.{activeCount, active, channelName}
 use Rattle.layout.specs.Questions.{Question, firstNo, layoutQuestions}
-use Rattle.layout.proofs.QuestionsCounted.{both}
 use Rattle.layout.proofs.Sizes.{Sized}
 use Rattle.extent.specs.declared.Extent.{Extent}
 use Rattle.extent.specs.Extent.{question7, meanOf, meanRadius}
@@ -27,17 +26,18 @@ use Rattle.selection.proofs.Selections.{selected-channels, selected-used, selec
 use Rattle.keys.specs.Keys.{keyWords, placesOver, PackedAs}
 use Rattle.keys.proofs.KeyReads.{key-reads}
 use Rattle.keys.proofs.KeyPlaces.{packed-as}
+use Rattle.slots.specs.declared.Ring.{Ring}
+use Rattle.slots.specs.declared.Word.the-variants.{Unused}
+use Rattle.slots.specs.Serve.{laterQuestions, activeIn}
+use Rattle.slots.proofs.ActiveKeys.{active-in}
+use Rattle.slots.proofs.Later.{yes-first}
 use Rattle.selector.specs.declared.Outcome.the-variants.{Refused, Gains}
 use Rattle.selector.specs.declared.Reply.{Reply}
-use Rattle.selector.specs.declared.Ring.{Ring}
-use Rattle.selector.specs.declared.Word.the-variants.{Unused}
-use Rattle.selector.specs.Call.{Call, Found, Answer, Wanted, stateIn, question14, argumentQuestions, callQuestions, wanted, served, refusedBy, answerOf}
-use Rattle.selector.specs.Steps.{laterQuestions, zoneQuestions, objectQuestions, planQuestions, activeIn, callBy, foundBy, wantedBy, replyOf}
-use Rattle.selector.proofs.Questions.{Numbered, yes-first, first-front, layout-numbered}
-use Rattle.selector.proofs.ActiveKeys.{active-in}
+use Rattle.selector.specs.Call.{Call, Found, Answer, Wanted, stateIn, argumentQuestions, callQuestions, wanted, served, refusedBy, answerOf}
+use Rattle.selector.specs.Steps.{zoneQuestions, objectQuestions, planQuestions, callBy, foundBy, wantedBy, replyOf}
+use Rattle.selector.proofs.Questions.{Numbered, first-front, layout-numbered}
 use Rattle.selector.proofs.asked.Chosen.{first-stays, first-passes}
 use Rattle.selector.proofs.call.Answers.{Leaves}
-use Rattle.selector.proofs.call.Later.{located, pointed, roomy}
 
 numbered-append : (qs rs : List Question) → Numbered qs → Numbered rs → Numbered (qs ++ rs)
 numbered-append [] rs h k = k
@@ -102,18 +102,6 @@ module _ (l : Layout) (t u : RegionSemanticState) (e : t ≡ u) (place : ℕ) (s
 pub packed-here : (l : Layout) → Sized l → (epoch : ℕ) (old : List Float) (key : List ℕ) (places : List Float) → length old ≡ 52 → key ≡ keyWords l epoch → places ≡ placesOver l old → PackedAs l epoch key places
 packed-here l s epoch old key places n k p =
     subst (λ (x : List ℕ). PackedAs l epoch x places) (sym k) (subst (λ (x : List Float). PackedAs l epoch (keyWords l epoch) x) (sym p) (packed-as l s epoch old n))
-
--- ---- the last four
-pub later-gives : (c : Centre) (points : List Float) (n slots size : ℕ) (r : Ring) (q : ℕ) → q ≡ firstNo (laterQuestions c points n slots size r) → q ≡ 0 → (r .count ≤ 8) × (r .oldest < 8) × (285312 ≤ size)
-unfolding laterQuestions
-later-gives c points n slots size r q f z =
-    let a = yes-first (located c points n slots size r) _ 11 (omega arith) (sym f ∙ z) in
-    let b = yes-first (pointed c points n slots size r) _ 12 (omega arith) (a .1) in
-    let d = yes-first (roomy c points n slots size r) _ 13 (omega arith) (b .1) in
-    let g = yes-first (question14 (r .count) (r .oldest)) _ 14 (omega arith) (d .1) in
-    let h = both (leb (r .count) 8) (ltb (r .oldest) 8) (g .0) in
-    let i = both (leb n slots) (leb 285312 size) (d .0) in
-    (leb-true (r .count) 8 (h .0), ltb-true (r .oldest) 8 (h .1), leb-true 285312 size (i .1))
 
 -- ---- all fourteen
 module _ (words : List ℕ) (r : Ring) (store : List Float) (l : Layout) (epoch : ℕ) (e : Extent) (flags : List Bool) (c : Centre) (points gains : List Float) where

@@ -4,7 +4,7 @@ use mathlib.Core.Path.{_≡_, sym, ap}
 use mathlib.Core.Bool.{Bool, cond}
 use borrow.Author.Needs.{needs}
 use borrow.Author.Tests.{lt-ltb, le-ltb}
-use Rattle.selector.specs.declared.Ring.{Ring}
+use Rattle.slots.specs.declared.Ring.{Ring}
 use Rattle.selector.specs.Steps.{ringAfter}
 use Rattle.selector.proofs.call.after.Statement.{statement}
 use Rattle.selector.proofs.call.after.Tie as tie

@@ -5,7 +5,6 @@ use mathlib.Core.Bool.{Bool, true, false, not, false≢true}
 use borrow.Author.Needs.{needs}
 use borrow.Author.Tests.{eq-eqb, eqb-true}
 use lib.Ieee.{Float}
-use lib.ListN.{length}
 use Rattle.lists.proofs.Loops.{long}
 use Rattle.layout.specs.Channels.{activeCount}
 use Rattle.layout.specs.Questions.{firstNo, layoutQuestions}
@@ -15,15 +14,15 @@ use Rattle.extent.specs.Extent.{meanOf, meanRadius}
 use Rattle.region.specs.declared.RegionSemanticState.{RegionSemanticState}
 use Rattle.region.specs.Zones.{zonesOf}
 use Rattle.selection.specs.Selection.{selectedLayout, selectionRefusal}
-use Rattle.selection.proofs.Selections.{selected-sized}
 use Rattle.keys.specs.Keys.{keyWords}
-use Rattle.keys.proofs.KeyWhole.{key-length}
+use Rattle.slots.specs.declared.Word.the-variants.{Built}
+use Rattle.slots.specs.Serve.{activeIn}
+use Rattle.slots.proofs.Later.{later-gives}
 use Rattle.selector.specs.declared.Outcome.the-variants.{Gains}
-use Rattle.selector.specs.declared.Word.the-variants.{Built}
 use Rattle.selector.specs.Call.{stateIn, answerOf}
-use Rattle.selector.specs.Steps.{objectQuestions, planQuestions, ChosenBy, activeIn, callBy, foundBy, ringAfter}
+use Rattle.selector.specs.Steps.{objectQuestions, planQuestions, ChosenBy, callBy, foundBy, ringAfter}
 use Rattle.selector.proofs.call.Answers.{Leaves}
-use Rattle.selector.proofs.call.Whole.{packed-here, layout-refuses, with-layout, chosen-yes, chosen-passes, key-depth, key-active, stores-same, gains-same, later-gives, plan-refuses, later-refuses, call-serves}
+use Rattle.selector.proofs.call.Whole.{packed-here, layout-refuses, with-layout, chosen-yes, chosen-passes, key-depth, key-active, stores-same, gains-same, plan-refuses, later-refuses, call-serves}
 use Rattle.selector.proofs.call.Words.{says-leaves, builds-leaves}
 use Rattle.selector.proofs.call.project_outcome_with_epoch.Statement.{statement}
 use Rattle.selector.proofs.call.project_outcome_with_epoch.Tie as tie
@@ -39,26 +38,23 @@ not-true false h = refl
 sized : (c : tie.Start) → Sized (c .args .l)
 sized c = search (needs, long)
 
-wide : (c : tie.After-lent) → length (c .before .before .before .before .args .words .now) ≡ 1248
-wide c = search needs
-
-good : (c : tie.Else1) → firstNo (layoutQuestions (c .before .before .before .before .before .before .before .before .before .before .before .args .l)) ≡ 0
+good : (c : tie.Else1) → firstNo (layoutQuestions (c .before .before .before .before .before .before .before .before .before .before .args .l)) ≡ 0
 good c =
     let a = c .before in
     let k = a .before .before .before in
-    let g = k .before .before .before .before .before .before .before in
+    let g = k .before .before .before .before .before .before in
     let p = k .pack .ensures in
     let e = a .is-accepted .ensures (g .args .l) (g .args .epoch) (packed-here (g .args .l) (sized g) (g .args .epoch) _ _ _ refl (p .0) (p .1)) in
     eqb-true _ 0 (sym e ∙ not-false (a .is-accepted .result) (c .if1 .left))
 
 abbrev begun : tie.After-plan → tie.Start
-begun c = c .before .before .before .before .before .before .before .before .before .before .before .before .before .before
+begun c = c .before .before .before .before .before .before .before .before .before .before .before .before .before
 
 chosen : (c : tie.After-plan) → ChosenBy (begun c .args .l) (begun c .args .epoch) (begun c .args .flags) (objectQuestions (begun c .args .l) (begun c .args .e) (begun c .args .flags)) (meanOf (begun c .args .e)) (meanRadius (meanOf (begun c .args .e))) (c .plan .last .1 .1 .0) (c .plan .result)
 chosen c =
     let x = c .before .before .before in
     let k = x .before .before .before .before in
-    let g = k .before .before .before .before .before .before .before in
+    let g = k .before .before .before .before .before .before in
     let p = k .pack .ensures in
     c .plan .ensures (g .args .l) (g .args .epoch) (packed-here (g .args .l) (sized g) (g .args .epoch) _ _ _ refl (p .0) (p .1)) (accepted (g .args .l) (sized g .channels) (sized g .layers) (sized g .rows) (sized g .anchors) (good x))
 
@@ -68,7 +64,7 @@ returns c =
     let i = f .before in
     let a = i .before in
     let k = a .before .before .before in
-    let s = k .before .before .before .before .before .before .before in
+    let s = k .before .before .before .before .before .before in
     let p = k .pack .ensures in
     let e = a .is-accepted .ensures (s .args .l) (s .args .epoch) (packed-here (s .args .l) (sized s) (s .args .epoch) _ _ _ refl (p .0) (p .1)) in
     layout-refuses (s .args .words .now) (s .args .r) (s .args .store .now) (s .args .l) (s .args .epoch) (s .args .e) (s .args .flags) (s .args .c) (s .args .points .now) (s .args .gains .now) _ _ (f .first-no .ensures .0)
@@ -94,9 +90,6 @@ yes c = good (planned c .before .before .before)
 key-is : (c : tie.Else2) → key c ≡ keyWords (selectedLayout (state c) (start c .args .l)) (start c .args .epoch)
 key-is c = chosen (planned c) .1 (c .if2 .left) .1
 
-key-long : (c : tie.Else2) → length (key c) ≡ 156
-key-long c = ap length (key-is c) ∙ key-length (selectedLayout (state c) (start c .args .l)) (selected-sized (start c .args .l) (sized (start c)) (state c)) (start c .args .epoch)
-
 n-is : (c : tie.Else2) → activeIn (key c) ≡ activeCount (start c .args .l)
 n-is c = key-active (start c .args .l) (sized (start c)) (state c) (start c .args .epoch) (key c) (key-is c)
 
@@ -110,12 +103,6 @@ returns-2 c =
     let m = i .before .before in
     let s = begun m in
     plan-refuses (s .args .words .now) (s .args .r) (s .args .store .now) (s .args .l) (s .args .epoch) (s .args .e) (s .args .flags) (s .args .c) (s .args .points .now) (s .args .gains .now) _ _ (plan-is m) (i .if2 .taken) (c .refused2 .ensures)
-
-aggregate : tie.Need-slice-aggregate-key
-aggregate c = search (needs, key-long (c .before))
-
-serve-requires : tie.Need-ask-and-serve-requires
-serve-requires c κs = (search needs, key-long (c .before .before .before .before))
 
 returns-3 : tie.Need-returns-3
 returns-3 c =
@@ -143,7 +130,7 @@ returns-4 c =
 
 build-requires : tie.Need-build-selected-requires
 build-requires c κs =
-    let i = c .before .before .before .before .before in
+    let i = c .before .before .before .before .before .before .before in
     let w = i .before .before .before .before in
     let d = w .before .before .before .before .before in
     let m = planned d in
@@ -152,11 +139,9 @@ build-requires c κs =
     let h = chosen m .1 (d .if2 .left) .0 in
     let l = s .args .l in
     let y = sized s in (
-      wide (m .before .before .before .before .before .before .before .before .before .before),
       a .0,
       a .1,
       a .2,
-      key-long d,
       ap (λ (t : RegionSemanticState). firstNo (layoutQuestions (selectedLayout t l))) h ∙ chosen-yes l (s .args .e) (s .args .flags) (yes d) _ (chosen m .0) y (d .if2 .left),
       ap (λ (t : RegionSemanticState). selectionRefusal t l) h ∙ chosen-passes l (s .args .e) (s .args .flags) (yes d) _ (chosen m .0) y (d .if2 .left) (accepted l (y .channels) (y .layers) (y .rows) (y .anchors) (yes d) .fewLayers),
     )
@@ -164,7 +149,7 @@ build-requires c κs =
 returns-5 : tie.Need-returns-5
 returns-5 c =
     let f = c .before .before .before .before in
-    let j = f .before .before .before .before in
+    let j = f .before .before .before .before .before .before in
     let b = j .before in
     let i = b .before in
     let w = i .before .before .before .before in
@@ -190,8 +175,7 @@ project-outcome-with-epoch-spec =
     (λ c κs. search needs)
     (λ c κs. search needs)
     returns-2
-    aggregate
-    serve-requires
+    (λ c κs. search needs)
     (λ c κs. search needs)
     (λ c. search needs)
     (λ c. search needs)

@@ -1,0 +1,4 @@
+pub mod KeyCompare
+pub mod ActiveKeys
+pub mod Later
+pub mod Words
