@@ -11,7 +11,6 @@ ghost use Rattle.selection.specs.Selection.{selectedLayout, selectionRefusal};
 ghost use Rattle.selector.specs.Call.{answerOf};
 ghost use Rattle.selector.specs.Steps.{ringAfter, foundBy, replyOf, callBy, isBuilt};
 use crate::Outcome;
-use crate::Plan;
 use crate::Reply;
 use crate::asked::plan;
 use extent::Extent;

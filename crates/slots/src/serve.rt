@@ -117,7 +117,7 @@ fn unserved(q: u64) -> Served
     }
 }
 
-// Questions 11 to 14 and the search, for a key.
+// Questions 11 to 14 and the search, for a key. A refusal comes with n 0 and `Unused`.
 pub fn ask_and_serve(
     words: &[u64; 1248],
     r: Ring,
@@ -130,7 +130,7 @@ pub fn ask_and_serve(
     gains: &mut [f64],
 ) -> Served
     ensures { λ s. ⌜ s .refusal ≡ firstNo (laterQuestions c (now (points .entry)) (activeIn (now (key .entry))) (length (now (gains .entry))) (length (now (store .entry))) r) ⌝ }
-    ensures refused { λ s. ⌜ ((s .refusal ≡ 0 → ⊥) → now (gains .exit) ≡ now (gains .entry)) ⌝ }
+    ensures refused { λ s. ⌜ ((s .refusal ≡ 0 → ⊥) → (s .n ≡ 0) × (s .word ≡ Word.Unused) × (now (gains .exit) ≡ now (gains .entry))) ⌝ }
     ensures served { λ s. ⌜ (s .refusal ≡ 0 → (s .n ≡ activeIn (now (key .entry))) × (s .word ≡ wordBy mean (slotOf (now (words .entry)) r (now (key .entry)))) × (now (gains .exit) ≡ gainsSoFar (now (store .entry)) (now (key .entry)) (slotOf (now (words .entry)) r (now (key .entry))) (activeIn (now (key .entry))) mean radius c (now (points .entry)) (now (gains .entry)))) ⌝ }
 {
     let n = active_in(key, channels::covered(key[152] as usize));

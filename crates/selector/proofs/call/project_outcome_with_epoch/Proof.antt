@@ -111,7 +111,7 @@ returns-3 c =
     let d = w .before .before .before .before .before in
     let s = start d in
     let e = w .ask-and-serve .ensures in
-    subst (λ (x : List Float). Leaves (answerOf (callBy (s .args .l) (s .args .epoch) (s .args .e) (s .args .flags) (s .args .c) (s .args .points .now) (s .args .gains .now)) (foundBy (s .args .words .now) (s .args .r) (s .args .store .now))) (c .refused3 .result) (s .args .words .now) (s .args .store .now) x) (sym (e .1 .0 (i .if3 .taken)))
+    subst (λ (x : List Float). Leaves (answerOf (callBy (s .args .l) (s .args .epoch) (s .args .e) (s .args .flags) (s .args .c) (s .args .points .now) (s .args .gains .now)) (foundBy (s .args .words .now) (s .args .r) (s .args .store .now))) (c .refused3 .result) (s .args .words .now) (s .args .store .now) x) (sym (e .1 .0 (i .if3 .taken) .2))
     (later-refuses (s .args .words .now) (s .args .r) (s .args .store .now) (s .args .l) (s .args .epoch) (s .args .e) (s .args .flags) (s .args .c) (s .args .points .now) (s .args .gains .now) _ _ _ _ (plan-is (planned d)) (d .if2 .left) (n-is d) (e .0) (i .if3 .taken) (c .refused3 .ensures))
 
 returns-4 : tie.Need-returns-4

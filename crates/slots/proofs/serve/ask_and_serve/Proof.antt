@@ -22,7 +22,7 @@ returns : tie.Need-returns
 returns c =
     let i = c .before in
     let e : c .unserved .result .refusal ≡ i .before .later-no .result = ap (λ (s : Served). s .refusal) (c .unserved .ensures) in
-    (e ∙ later-is (i .before), ((λ n. refl), λ z. absurd (i .if1 .taken (sym e ∙ z))))
+    (e ∙ later-is (i .before), ((λ z. (ap (λ (s : Served). s .n) (c .unserved .ensures), ap (λ (s : Served). s .word) (c .unserved .ensures), refl)), λ z. absurd (i .if1 .taken (sym e ∙ z))))
 
 serve-requires : tie.Need-serve-requires
 serve-requires c κs =
