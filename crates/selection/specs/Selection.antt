@@ -1,9 +1,9 @@
 -- The layout that a region state selects, by document 01. Definitions only.
 use Prim.Native.Nat.{ℕ, suc}
-use mathlib.Core.Bool.{Bool, true, false, _&&_, _||_, not, cond}
+use mathlib.Core.Bool.{Bool, false, _&&_, _||_, not, cond}
 use mathlib.Core.List.{List, [], _∷_, _++_, map}
 use lib.Dec.{eqb, leb, ltb}
-use lib.Ieee.{Float, lt, eq}
+use lib.Ieee.{lt, eq}
 use lib.ListN.{length, drop, replicate}
 use Rattle.doubles.specs.Arithmetic.{zero}
 use Rattle.lists.specs.Lists.{all, filter}

@@ -1,14 +1,11 @@
 // `derive_selected_layout`: the layout that a region state selects.
 ghost use mathlib.Core.Path.{_≡_};
-ghost use mathlib.Core.Bool.{_&&_, false, cond};
+ghost use mathlib.Core.Bool.{false, cond};
 ghost use mathlib.Core.List.{[], _∷_, _++_, map};
 ghost use Prim.Native.Nat.{_≤_};
 ghost use lib.Dec.{eqb};
-ghost use lib.Ieee.{lt};
 ghost use lib.ListN.{length, take, drop};
 ghost use lib.Seq.{slice};
-ghost use Rattle.doubles.specs.Arithmetic.{zero};
-ghost use Rattle.lists.specs.Lists.{all};
 ghost use Rattle.layout.specs.Questions.{firstNo};
 ghost use Rattle.layout.specs.Topology.{topologyOf};
 ghost use Rattle.region.specs.Zones.{isDefault};

@@ -1,5 +1,4 @@
 -- The names from i on are indexed.
-use mathlib.Core.Path.{_≡_, refl, sym, _∙_}
 use native.Mathlib.Omega.{arith}
 use borrow.Author.Needs.{needs}
 use Rattle.questions.proofs.Indexed.{Indexed, indexed-none, indexed-more, indexed-done}
