@@ -5,7 +5,10 @@ use mathlib.Core.Bool.{Bool, true, _&&_, _||_, not, cond}
 use mathlib.Core.List.{List, [], _∷_, _++_, map}
 use lib.Dec.{T, eqb}
 use lib.Ieee.{Float, binary64, fits}
+use lib.Ieee.Scale.{finite}
 use lib.ListN.{length, take, drop, replicate}
+use Rattle.doubles.specs.Arithmetic.{zero, dec}
+use Rattle.doubles.specs.Range.{between}
 use Rattle.lists.specs.Lists.{all, any}
 use Rattle.layout.specs.declared.Layout.{Layout}
 use Rattle.layout.specs.Same.{sameLayout}
