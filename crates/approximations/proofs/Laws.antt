@@ -8,7 +8,7 @@ use Rattle.doubles.specs.Arithmetic.{zero, one}
 use Rattle.doubles.proofs.Signs.{clear}
 use Rattle.approximations.specs.Circular.{H, sineOf, cosineOf}
 use Rattle.approximations.specs.Exp2.{exp2Of}
-use Rattle.approximations.proofs.circular.Bounds as circular
+use Rattle.approximations.proofs.SeriesBounds as circular
 use Rattle.approximations.proofs.exp2.Sign as exponential
 
 -- ---- sine and cosine
@@ -22,10 +22,10 @@ cosine-fits a = circular.cosine-fits a
 
 -- of a from 0 to H they are finite and from 0 to 1
 pub sine-range : (a : Float) → T (fits binary64 a) → T (le zero a) → T (le a H) → T (finite (sineOf a)) × T (le zero (sineOf a)) × T (le (sineOf a) one)
-sine-range a h lo hi = circular.circular-range a h lo hi .0
+sine-range a h lo hi = circular.sine-range a h lo hi
 
 pub cosine-range : (a : Float) → T (fits binary64 a) → T (le zero a) → T (le a H) → T (finite (cosineOf a)) × T (le zero (cosineOf a)) × T (le (cosineOf a) one)
-cosine-range a h lo hi = circular.circular-range a h lo hi .1
+cosine-range a h lo hi = circular.cosine-range a h lo hi
 
 -- ---- `approx_exp2`
 

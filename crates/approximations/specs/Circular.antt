@@ -1,11 +1,11 @@
--- Sine and cosine, document 01's stand-ins. Definitions only.
+-- Sine and cosine: document 01's stand-ins, with the complement of request 5. Definitions only.
 use Prim.Native.Nat.{ℕ, _^_}
 use mathlib.Core.Bool.{Bool, true, _&&_, cond}
 use mathlib.Core.List.{List, [], _∷_}
 use lib.Dec.{leb}
 use lib.IntN.{pos}
-use lib.Ieee.{Float, le}
-use Rattle.doubles.specs.Arithmetic.{_⊖_, _⊗_, _⊘_, dec, whole, zero, one}
+use lib.Ieee.{Float, binary64, le, ofBits}
+use Rattle.doubles.specs.Arithmetic.{_⊕_, _⊖_, _⊗_, _⊘_, dec, whole, zero, one}
 
 -- 1!, 3! to 15!
 abbrev pub oddFactorials : List ℕ
@@ -47,10 +47,18 @@ H = dec 15707963267948966 16
 abbrev pub halfH : Float
 halfH = H ⊘ whole (pos 2)
 
+-- L: the double with these bits, the one nearest to pi / 2 - H
+abbrev pub L : Float
+L = ofBits binary64 0x3c91a62633145c07
+
+-- b, the complement of a: (H - a) + L
+abbrev pub complementOf : Float → Float
+complementOf a = H ⊖ a ⊕ L
+
 unfoldable pub sineOf : Float → Float
 unfolding sineSeries cosineSeries
-sineOf a = cond (le a halfH) (sineSeries a) (cosineSeries (H ⊖ a))
+sineOf a = cond (le a halfH) (sineSeries a) (cosineSeries (complementOf a))
 
 unfoldable pub cosineOf : Float → Float
 unfolding sineSeries cosineSeries
-cosineOf a = cond (le a halfH) (cosineSeries a) (sineSeries (H ⊖ a))
+cosineOf a = cond (le a halfH) (cosineSeries a) (sineSeries (complementOf a))

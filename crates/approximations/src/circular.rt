@@ -4,7 +4,8 @@ ghost use Prim.Native.Nat.{_<_};
 ghost use lib.Dec.{T};
 ghost use lib.ListN.{length};
 ghost use lib.Ieee.{le};
-ghost use Rattle.approximations.specs.Circular.{sineOf, cosineOf, sineSeries, cosineSeries, series, exact, halfH};
+ghost use Rattle.approximations.specs.Circular.{sineOf, cosineOf, sineSeries, cosineSeries, series, exact};
+ghost use Rattle.approximations.specs.Circular.{halfH, complementOf};
 
 // 1!, 3! to 15!
 const ODD_FACTORIALS: [u64; 8] = [1, 6, 120, 5040, 362880, 39916800, 6227020800, 1307674368000];
@@ -24,6 +25,8 @@ const EVEN_FACTORIALS: [u64; 9] = [
 const H: f64 = 1.5707963267948966;
 
 const HALF_H: f64 = 0.7853981633974483;
+// The double nearest to pi / 2 - H, with the bits 3C91A62633145C07.
+const L: f64 = 6.123233995736766e-17;
 
 // c0 - y (c1 - y (c2 ...)), each c being 1 / factorial, rounded once.
 fn alternating_series(factorials: &[u64], y: f64) -> f64
@@ -61,6 +64,13 @@ fn is_low(a: f64) -> bool
     a <= HALF_H
 }
 
+// pi / 2 - a: H - a is exact for a from H / 2 to H, and L is what H leaves out.
+fn complement(a: f64) -> f64
+    ensures { λ r. ⌜ r ≡ complementOf a ⌝ }
+{
+    (H - a) + L
+}
+
 // The sine of a, meant for a from 0 to H and defined by the same formula everywhere.
 pub fn sine(a: f64) -> f64
     ensures { λ r. ⌜ r ≡ sineOf a ⌝ }
@@ -68,17 +78,17 @@ pub fn sine(a: f64) -> f64
     if is_low(a) {
         sine_series(a)
     } else {
-        cosine_series(H - a)
+        cosine_series(complement(a))
     }
 }
 
-// The cosine of a, likewise.
+// The cosine of a, meant for a from 0 to H and defined by the same formula everywhere.
 pub fn cosine(a: f64) -> f64
     ensures { λ r. ⌜ r ≡ cosineOf a ⌝ }
 {
     if is_low(a) {
         cosine_series(a)
     } else {
-        sine_series(H - a)
+        sine_series(complement(a))
     }
 }

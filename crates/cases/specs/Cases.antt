@@ -6,7 +6,7 @@ use lib.Dec.{eqb}
 use lib.IntN.{pos, negsuc}
 use lib.Ieee.{Float, binary64, nan, fin, toBits, lt}
 use Rattle.doubles.specs.Arithmetic.{dec, whole, zero, one}
-use Rattle.approximations.specs.Circular.{H, cosineOf}
+use Rattle.approximations.specs.Circular.{H, L, cosineOf}
 use Rattle.approximations.specs.Exp2.{exp2Of}
 use Rattle.extent.specs.declared.Extent.{Extent}
 use Rattle.extent.specs.Extent.{meanOf, meanRadius, radiusOf, readingOf, quantised}
@@ -90,7 +90,7 @@ cases =
     ∷ doubles (exp2Of (whole (negsuc 0))) (dec 5 1)
     ∷ doubles (exp2Of (whole (pos 1024))) zero
     ∷ doubles (cosineOf zero) one
-    ∷ doubles (cosineOf H) zero
+    ∷ doubles (cosineOf H) L
     ∷ numbers (meanOf (extent zero zero zero)) 0
     ∷ numbers (meanOf (extent one one one)) 32767
     ∷ numbers (meanOf (extent one zero zero)) 10922

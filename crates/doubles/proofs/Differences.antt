@@ -1,4 +1,4 @@
--- A difference of two values whose signs are clear, the first no less than the second; and products and differences that stay up to a value. Assumes nothing.
+-- A difference of two values whose signs are clear, the first no less than the second; and products, differences and sums that stay up to a value. Assumes nothing.
 use mathlib.Core.Path.{_≡_, sym, ap, _∙_, subst}
 use Prim.Native.Nat.{ℕ, _+_, _-_, _*_, _^_, _≤_, _<_}
 use native.Mathlib.Nat.{le-trans, not-le-of-lt, mul-comm, mul-assoc, mul-right-comm, mul-sub, mul-le-mul-right, mul-pos}
@@ -10,7 +10,7 @@ use lib.Ieee.{Float, nan, inf, fin, Format, low, up, down, round, sum, add, sub,
 use lib.Ieee.Fits.{down-pos, round-fits}
 use lib.Ieee.Scale.{round-same}
 use Rattle.doubles.specs.Arithmetic.{one}
-use Rattle.doubles.proofs.Magnitude.{mag, mag-val, plain}
+use Rattle.doubles.proofs.Magnitude.{mag, mag-val, plain, plain-val, add-at}
 use Rattle.doubles.proofs.Order.{mag-mono, mag-le, round-under-value}
 use Rattle.doubles.proofs.Interpolation.{mul-less, cross-mag, to-one}
 
@@ -76,3 +76,16 @@ sub-up-to f c x y h i j p q r l g =
     let u = 2 ^ low f in
     let z = round-under-value f (mag f x - mag f y) u c h p (pow-pos (low f)) (room (mag f x) (mag f y) (mag f c) u g) in
     subst (λ (w : Float). UpTo f c w) (sym e) (round-fits f false (mag f x - mag f y) u, z .0, mag-le f (round f false (mag f x - mag f y) u) c (round-fits f false (mag f x - mag f y) u) h (z .0) p (z .1))
+
+-- x + y is up to c
+sum-room : (x y c l : ℕ) → x + y ≤ c → (x * l + y * l) * l ≤ c * (l * l)
+sum-room x y c l h = let k = mul-le-mul-right (l * l) h in omega arith
+
+pub add-up-to : (f : Format) (c x y : Float) → T (fits f c) → T (fits f x) → T (fits f y) → T (plain c) → T (plain x) → T (plain y) → mag f x + mag f y ≤ mag f c → UpTo f c (add f x y)
+add-up-to f c x y h i j p q r g =
+    let l = 2 ^ low f in
+    let L = pow-pos (low f) in
+    let e = add-at f x y (mag f x) l (mag f y) l L L (plain-val f x i q) (plain-val f y j r) in
+    let n = mag f x * l + mag f y * l in
+    let z = round-under-value f n (l * l) c h p (mul-pos L L) (sum-room (mag f x) (mag f y) (mag f c) l g) in
+    subst (λ (w : Float). UpTo f c w) (sym e) (round-fits f false n (l * l), z .0, mag-le f (round f false n (l * l)) c (round-fits f false n (l * l)) h (z .0) p (z .1))

@@ -7,6 +7,8 @@ pub mod AddZero
 pub mod Roots
 pub mod Interpolation
 pub mod Differences
+pub mod ExactDifferences
+pub mod Errors
 pub mod Bound
 pub mod Laws
 pub mod Ratio

@@ -4,3 +4,4 @@ pub mod Root
 pub mod Power
 pub mod Range
 pub mod Norm
+pub mod Distance

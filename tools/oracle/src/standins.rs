@@ -1,4 +1,4 @@
-//! The stand-ins of document 01, written from its text.
+//! The stand-ins of document 01, sine and cosine with request 5's change, written from their texts.
 
 /// 2^n: exact from -1074 to 1023, 0 below, infinity above.
 pub fn pow2(n: i64) -> f64 {
@@ -29,6 +29,9 @@ pub fn floor_log2(x: f64) -> i64 {
 
 const H: f64 = std::f64::consts::FRAC_PI_2;
 
+/// Request 5's L: the double nearest to pi/2 - H.
+const L: f64 = f64::from_bits(0x3C91_A626_3314_5C07);
+
 fn factorial(n: u64) -> u64 {
     (1..=n).product()
 }
@@ -51,11 +54,16 @@ fn c(b: f64) -> f64 {
     series(b * b, 0, 16)
 }
 
+/// pi/2 - a, as request 5 has it.
+fn complement(a: f64) -> f64 {
+    (H - a) + L
+}
+
 pub fn sine(a: f64) -> f64 {
     if a <= H / 2.0 {
         s(a)
     } else {
-        c(H - a)
+        c(complement(a))
     }
 }
 
@@ -63,7 +71,7 @@ pub fn cosine(a: f64) -> f64 {
     if a <= H / 2.0 {
         c(a)
     } else {
-        s(H - a)
+        s(complement(a))
     }
 }
 

@@ -5,11 +5,11 @@ use mathlib.Core.List.{List, [], _∷_}
 use Prim.Native.Nat.{ℕ, zero, suc, _-_, _^_, _≤_, _<_, zero-le}
 use native.Mathlib.Omega.{arith}
 use lib.Dec.{T, leb, leb→le}
-use lib.Ieee.{Float, binary64, round, div, ofInt, ofBits}
+use lib.Ieee.{Float, binary64, le, round, div, ofInt, ofBits}
 use lib.Ieee.Fits.{and-l, and-r}
 use lib.ListN.{getD, length, drop}
 use Rattle.doubles.specs.Arithmetic.{_⊖_, _⊗_}
-use Rattle.approximations.specs.Circular.{inverse, series, exact, H, halfH}
+use Rattle.approximations.specs.Circular.{inverse, series, exact, H, halfH, complementOf}
 
 -- ---- the series of the last entry, and from the entry before the i-th on
 pub series-last : (y : Float) (ks : List ℕ) (i : ℕ) → suc i ≡ length ks → inverse (getD ks i 0) ≡ series y (drop i ks)
@@ -47,9 +47,15 @@ pub halfH-is : ofBits binary64 0x3fe921fb54442d18 ≡ halfH
 unfolding ofBits round div ofInt
 halfH-is = refl
 
--- ---- a test that was passed, or not
-pub passed : {t u : Bool} (x y : Float) → t ≡ u → t ≡ true → x ≡ cond u x y
+-- ---- one series up to H / 2, the other at the complement beyond
+passed : {t u : Bool} (x y : Float) → t ≡ u → t ≡ true → x ≡ cond u x y
 passed x y e t = rw (← e, t)
 
-pub failed : {t u : Bool} (x y : Float) → t ≡ u → t ≡ false → y ≡ cond u x y
+failed : {t u : Bool} (x y : Float) → t ≡ u → t ≡ false → y ≡ cond u x y
 failed x y e t = rw (← e, t)
+
+pub low : {t : Bool} (S C : Float → Float) (a : Float) → t ≡ le a halfH → t ≡ true → S a ≡ cond (le a halfH) (S a) (C (complementOf a))
+low S C a e t = passed (S a) (C (complementOf a)) e t
+
+pub high : {t : Bool} (S C : Float → Float) (a b : Float) → t ≡ le a halfH → t ≡ false → b ≡ complementOf a → C b ≡ cond (le a halfH) (S a) (C (complementOf a))
+high S C a b e t l = ap C l ∙ failed (S a) (C (complementOf a)) e t

@@ -110,6 +110,22 @@ fn near_squares(random: &mut Random) -> Vec<u64> {
     list.into_iter().collect()
 }
 
+/// Angles at distances of every power of two from H/2 and from H, below and above: the close cases of
+/// the complement.
+fn turns(random: &mut Random) -> Vec<u64> {
+    let mut list = BTreeSet::new();
+    for end in [std::f64::consts::FRAC_PI_4, std::f64::consts::FRAC_PI_2] {
+        for k in 0..54 {
+            let unit = (random.next() >> 11) as f64 / 9007199254740992.0;
+            for distance in [standins::pow2(-k), (1.0 + unit) * standins::pow2(-k)] {
+                list.insert(pattern(end - distance));
+                list.insert(pattern(end + distance));
+            }
+        }
+    }
+    list.into_iter().collect()
+}
+
 fn powers() -> Vec<u64> {
     let mut list: BTreeSet<i64> = (-1100..1100).collect();
     for edge in [i64::MIN, i64::MAX, i64::from(i32::MIN), i64::from(i32::MAX)] {
@@ -125,12 +141,14 @@ fn main() {
     let mut random = Random(2026);
     let common = doubles(&mut random);
     let squares = near_squares(&mut random);
+    let turns = turns(&mut random);
     let (mut inputs, mut answers) = (String::new(), String::new());
     for (letter, function) in FUNCTIONS {
         let list = match letter {
             'p' => powers(),
             'q' => powers().into_iter().filter(|&b| i32::try_from(b as i64).is_ok()).map(|b| b & 0xffff_ffff).collect(),
             'r' => [common.clone(), squares.clone()].concat(),
+            's' | 'c' => [common.clone(), turns.clone()].concat(),
             'g' | 'i' | 'b' | 'k' => common.iter().copied().step_by(4).collect(),
             _ => common.clone(),
         };

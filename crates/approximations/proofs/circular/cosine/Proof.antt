@@ -1,27 +1,18 @@
 -- `circular::cosine` meets its contract. Assumes nothing.
-use mathlib.Core.Path.{_≡_, ap, _∙_}
-use mathlib.Core.Bool.{Bool, true, false}
+use mathlib.Core.Path.{_∙_}
 use borrow.Author.Needs.{needs}
-use lib.Ieee.{Float, binary64, ofBits, le}
-use Rattle.doubles.specs.Arithmetic.{_⊖_}
-use Rattle.approximations.specs.Circular.{H, halfH, sineSeries, cosineSeries, cosineOf}
-use Rattle.approximations.proofs.circular.Series.{H-is, passed, failed}
+use Rattle.approximations.specs.Circular.{sineSeries, cosineSeries, cosineOf}
+use Rattle.approximations.proofs.circular.Series.{low, high}
 use Rattle.approximations.proofs.circular.cosine.Statement.{statement}
 use Rattle.approximations.proofs.circular.cosine.Tie as tie
 
-low : {t : Bool} (a : Float) → t ≡ le a halfH → t ≡ true → cosineSeries a ≡ cosineOf a
-unfolding cosineOf
-low a e t = passed (cosineSeries a) (sineSeries (H ⊖ a)) e t
-
-high : {t : Bool} (a : Float) → t ≡ le a halfH → t ≡ false → sineSeries (ofBits binary64 0x3ff921fb54442d18 ⊖ a) ≡ cosineOf a
-unfolding cosineOf
-high a e t = ap (λ (h : Float). sineSeries (h ⊖ a)) H-is ∙ failed (cosineSeries a) (sineSeries (H ⊖ a)) e t
-
 returns : tie.Need-returns
-returns c = search needs ∙ low (c .before .before .before .args .a) (c .before .before .is-low .ensures) (c .before .if1 .taken)
+unfolding cosineOf
+returns c = search needs ∙ low cosineSeries sineSeries (c .before .before .before .args .a) (c .before .before .is-low .ensures) (c .before .if1 .taken)
 
 returns-2 : tie.Need-returns-2
-returns-2 c = search needs ∙ high (c .before .before .before .args .a) (c .before .before .is-low .ensures) (c .before .if1 .left)
+unfolding cosineOf
+returns-2 c = search needs ∙ high cosineSeries sineSeries (c .before .before .before .before .args .a) (c .before .complement .result) (c .before .before .before .is-low .ensures) (c .before .before .if1 .left) (c .before .complement .ensures)
 
 pub cosine-spec : {M : Type 1} → statement M
-cosine-spec = tie.close (tie.spec (λ c κs. search needs) (λ c κs. search needs) (λ c κs. search needs) returns returns-2)
+cosine-spec = tie.close (tie.spec (λ c κs. search needs) (λ c κs. search needs) (λ c κs. search needs) (λ c κs. search needs) returns returns-2)

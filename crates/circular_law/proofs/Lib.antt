@@ -1,0 +1,10 @@
+pub mod Steps
+pub mod Alternating
+pub mod FloatSteps
+pub mod Series
+pub mod AtPoint
+pub mod Turn
+pub mod Quarter
+pub mod Terms
+pub mod Fractions
+pub mod Law
