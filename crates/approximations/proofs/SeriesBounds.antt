@@ -91,7 +91,7 @@ cosine-up-to b u = series-to-one (drop 1 evenFactorials) b even-falling u
 pub H-fits : T (fits binary64 H)
 H-fits = round-fits binary64 false _ _
 
-pub halfH-fits : T (fits binary64 halfH)
+halfH-fits : T (fits binary64 halfH)
 halfH-fits = div-fits binary64 H (ofInt binary64 (pos 2))
 
 pub L-fits : T (fits binary64 L)
@@ -102,7 +102,7 @@ pub H-plain : T (plain H)
 unfolding round
 H-plain = tt
 
-pub halfH-plain : T (plain halfH)
+halfH-plain : T (plain halfH)
 unfolding round div ofInt
 halfH-plain = tt
 
@@ -130,7 +130,7 @@ halfH-to-largest : T (le halfH largestArgument)
 unfolding round div ofInt le
 halfH-to-largest = tt
 
-pub halfH-and-L : mag binary64 halfH + mag binary64 L ≤ mag binary64 largestArgument
+halfH-and-L : mag binary64 halfH + mag binary64 L ≤ mag binary64 largestArgument
 unfolding round div ofInt ofBits
 halfH-and-L = lit≤ tt
 

@@ -64,7 +64,7 @@ module _ (f : Format) (i h : ℕ) (size : 2 ^ i ≡ 4 * h) (top : prec f + suc i
       eight : (z : ℕ) → 2 * (4 * z) * 2 ≡ 2 * (8 * z)
       eight z = omega arith
 
-  pub product-half : (y r : Float) → T (fits f y) → T (fits f r) → T (plain y) → T (plain r) → T (finite (mul f y r)) → mag f y < u → 2 * mag f r ≤ u → Apart (mag f (mul f y r) * u) (mag f y * mag f r) (2 * h * u)
+  product-half : (y r : Float) → T (fits f y) → T (fits f r) → T (plain y) → T (plain r) → T (finite (mul f y r)) → mag f y < u → 2 * mag f r ≤ u → Apart (mag f (mul f y r) * u) (mag f y * mag f r) (2 * h * u)
   product-half y r a b p q t k l =
       halved-times (mag f (mul f y r) * u) (mag f y * mag f r) (2 ^ i) (2 * h) u first-half
       (mul-error f y r i a b p q t (under-half (mag f y) (mag f r) u (2 ^ (prec f + i)) l k U half-power))
@@ -77,7 +77,7 @@ module _ (f : Format) (i h : ℕ) (size : 2 ^ i ≡ 4 * h) (top : prec f + suc i
   up-to-double : (x z : ℕ) → x ≤ z → 0 < z → x < z * 2
   up-to-double x z a b = omega arith
 
-  pub difference-one : (x y : Float) → T (fits f x) → T (fits f y) → T (plain x) → T (plain y) → mag f y ≤ mag f x → T (finite (sub f x y)) → mag f x ≤ u → Apart (mag f (sub f x y) + mag f y) (mag f x) (8 * h)
+  difference-one : (x y : Float) → T (fits f x) → T (fits f y) → T (plain x) → T (plain y) → mag f y ≤ mag f x → T (finite (sub f x y)) → mag f x ≤ u → Apart (mag f (sub f x y) + mag f y) (mag f x) (8 * h)
   difference-one x y a b p q o t l =
       halved (mag f (sub f x y) + mag f y) (mag f x) (2 ^ suc (suc i)) (8 * h) third-half
       (sub-error f x y (suc (suc i)) a b p q o t (rw two-power (up-to-double (mag f x) u l U)))

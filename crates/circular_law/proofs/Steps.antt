@@ -1,7 +1,7 @@
 -- Whole numbers alone: how an error passes through one step c - y * t of a series, through a square and through a product. A double is R / u; an exact number is (X - x) / D; Near says that they differ by E / u at most. Assumes nothing.
 use mathlib.Core.Path.{_≡_}
 use Prim.Native.Nat.{ℕ, _+_, _*_, _≤_, _<_}
-use native.Mathlib.Nat.{le-of-mul-le-mul-right, mul-le-mul-right, add-mul}
+use native.Mathlib.Nat.{mul-le-mul-right, add-mul}
 use native.Mathlib.Omega.{arith}
 use Rattle.doubles.specs.Distance.{Apart}
 use Rattle.doubles.proofs.Errors.{apart-mul, apart-cancel}

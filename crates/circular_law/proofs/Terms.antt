@@ -14,7 +14,7 @@ use Rattle.circular_law.proofs.Alternating.{side}
 use Rattle.circular_law.proofs.Series.{quotients}
 
 -- ---- powers
-pub mul-pow : (a b n : ℕ) → (a * b) ^ n ≡ a ^ n * b ^ n
+mul-pow : (a b n : ℕ) → (a * b) ^ n ≡ a ^ n * b ^ n
 mul-pow a b zero = pow-zero (a * b) ∙ sym (ap₂ _*_ (pow-zero a) (pow-zero b))
 mul-pow a b (suc n) = pow-suc (a * b) n ∙ ap (λ (z : ℕ). z * (a * b)) (mul-pow a b n) ∙ mul-mul-mul-comm (a ^ n) (b ^ n) a b ∙ sym (ap₂ _*_ (pow-suc a n) (pow-suc b n))
 
@@ -75,7 +75,7 @@ term-scaled c p q k n e l =
     regroup : (c a b d g : ℕ) → c * (a * b) * (d * g) ≡ c * a * d * (b * g)
     regroup c a b d g = omega arith
 
-pub terms-scaled : (n p q k : ℕ) (es : List ℕ) → T (upTo n es) → terms n (p * k) (q * k) es ≡ terms n p q es * k ^ n
+terms-scaled : (n p q k : ℕ) (es : List ℕ) → T (upTo n es) → terms n (p * k) (q * k) es ≡ terms n p q es * k ^ n
 terms-scaled n p q k [] t = sym (zero-times (k ^ n))
   where
     zero-times : (z : ℕ) → 0 * z ≡ 0

@@ -69,7 +69,7 @@ turned P (d ∷ g) = let r = turned P g in (plus (d .0 ∷ r .1) (times P (r .0)
 around : (a b A p s t y z : ℕ) → s + z ≡ t + y → a + p * t + (A + p) * s + (b + A * z) ≡ b + p * s + (A + p) * t + (a + A * y)
 around a b A p s t y z h = let e = ap (λ (w : ℕ). A * w) h in omega arith
 
-pub at-turned : (A p : ℕ) (g : Differences) → at (turned (A + p) g .0) p + at (taken g) A ≡ at (turned (A + p) g .1) p + at (added g) A
+at-turned : (A p : ℕ) (g : Differences) → at (turned (A + p) g .0) p + at (taken g) A ≡ at (turned (A + p) g .1) p + at (added g) A
 at-turned A p [] = refl
 at-turned A p (d ∷ g) =
     let P = A + p in
@@ -84,7 +84,7 @@ away P M g k = let r = turned P g in at (gaps (plus (r .0) (taken k)) (plus (r .
 through : (s t y z v w g e : ℕ) → Apart (s + w) (t + v) g → s + z ≡ t + y → g ≤ e → Apart (y + w) (v + z) e
 through s t y z v w g e a h l = omega arith
 
-pub turn-bound : (A p M e : ℕ) (g k : Differences) → p ≤ M → away (A + p) M g k ≤ e → Apart (at (added g) A + at (taken k) p) (at (added k) p + at (taken g) A) e
+turn-bound : (A p M e : ℕ) (g k : Differences) → p ≤ M → away (A + p) M g k ≤ e → Apart (at (added g) A + at (taken k) p) (at (added k) p + at (taken g) A) e
 turn-bound A p M e g k l h =
     let r = turned (A + p) g in
     let a = plus (r .0) (taken k) in

@@ -12,13 +12,13 @@ use Rattle.doubles.proofs.Magnitude.{mag, mag-of, mag-lt, plain, plain-
 use Rattle.doubles.proofs.Differences.{sub-at}
 
 -- ---- a size that is m * 2 ^ j, for an m of no more digits than the format has
-pub record Digits (f : Format) (X : ℕ) : Type 0 where
-  pub m : ℕ
-  pub j : ℕ
-  pub few : m < 2 ^ prec f
-  pub is : X ≡ m * 2 ^ j
+record Digits (f : Format) (X : ℕ) : Type 0 where
+  m : ℕ
+  j : ℕ
+  few : m < 2 ^ prec f
+  is : X ≡ m * 2 ^ j
 
-pub digits : (f : Format) (x : Float) → T (fits f x) → T (plain x) → Digits f (mag f x)
+digits : (f : Format) (x : Float) → T (fits f x) → T (plain x) → Digits f (mag f x)
 digits f nan h p = absurd p
 digits f (inf s) h p = absurd p
 digits f (fin true m e) h p = absurd p
