@@ -22,11 +22,11 @@ use Rattle.circular_law.proofs.Steps.{Near}
 use Rattle.circular_law.proofs.Alternating.{side, total, sides-bound, alone}
 use Rattle.circular_law.proofs.FloatSteps.{near-step}
 
--- ---- 1 in units of the smallest double; and an eighth of the last digit of a double from 1/2 to 1, in which errors are counted
+-- ---- 1, in units of the smallest double
 unfoldable pub scale : ℕ
 scale = 2 ^ 1074
 
--- 2 ^ -56
+-- an eighth of the last digit of a double from 1/2 to 1: 2 ^ -56, in the same units; errors are counted in it
 unfoldable pub eighth : ℕ
 eighth = 2 ^ 1018
 
@@ -37,13 +37,13 @@ quotients F (k ∷ ks) = F / k ∷ quotients F ks
 
 -- ---- what is tested of an entry: it divides F, and its inverse is rounded by an eighth at most
 abbrev pub rounded : ℕ → ℕ → Bool
-rounded F k = eqb (F / k * k) F && leb (mag binary64 (inverse k) * k) (2 ^ 1074 + 2 ^ 1018 * k) && leb (2 ^ 1074) (mag binary64 (inverse k) * k + 2 ^ 1018 * k)
+rounded F k = eqb (F / k * k) F && leb (mag binary64 (inverse k) * k) (scale + eighth * k) && leb scale (mag binary64 (inverse k) * k + eighth * k)
 
 -- of the list of the rounded series, and of the terms that follow in the exact one: the inverses after the first are up to 1/2
 abbrev pub tested : ℕ → ℕ → List ℕ → List ℕ → Bool
 tested F e [] ts = false
-tested F e (k ∷ []) ts = rounded F k && leb (25 * (2 ^ 1018 * F) + 16 * (total (quotients F ts) * 2 ^ 1074)) (25 * (e * 2 ^ 1018 * F))
-tested F e (k ∷ j ∷ ks) ts = rounded F k && leb (2 * mag binary64 (inverse j)) (2 ^ 1074) && tested F e (j ∷ ks) ts
+tested F e (k ∷ []) ts = rounded F k && leb (25 * (eighth * F) + 16 * (total (quotients F ts) * scale)) (25 * (e * eighth * F))
+tested F e (k ∷ j ∷ ks) ts = rounded F k && leb (2 * mag binary64 (inverse j)) scale && tested F e (j ∷ ks) ts
 
 -- the error in eighths, from that of the last entry on
 abbrev pub error : ℕ → List ℕ → ℕ
@@ -55,45 +55,42 @@ grows : (e : ℕ) → 425 + 16 * e ≤ 25 * (17 + (16 * e + 24) / 25)
 grows e = omega arith
 
 pub odd-tested : T (tested (factorial 25) 132 oddFactorials (factorial 17 ∷ factorial 19 ∷ factorial 21 ∷ factorial 23 ∷ factorial 25 ∷ []))
-unfolding div ofInt round
+unfolding scale eighth div ofInt round
 odd-tested = tt
 
 pub even-tested : T (tested (factorial 24) 9 evenFactorials (factorial 18 ∷ factorial 20 ∷ factorial 22 ∷ factorial 24 ∷ []))
-unfolding div ofInt round
+unfolding scale eighth div ofInt round
 even-tested = tt
 
 -- ---- the parts of a test
 rounded-divides : (F k : ℕ) → T (rounded F k) → F / k * k ≡ F
 rounded-divides F k t =
     let a = eqb (F / k * k) F in
-    let b = leb (mag binary64 (inverse k) * k) (2 ^ 1074 + 2 ^ 1018 * k) in
-    eqb→eq (F / k * k) F (and-l a b (and-l (a && b) (leb (2 ^ 1074) (mag binary64 (inverse k) * k + 2 ^ 1018 * k)) t))
+    let b = leb (mag binary64 (inverse k) * k) (scale + eighth * k) in
+    eqb→eq (F / k * k) F (and-l a b (and-l (a && b) (leb scale (mag binary64 (inverse k) * k + eighth * k)) t))
 
 rounded-near : (F k : ℕ) → T (rounded F k) → Apart (mag binary64 (inverse k) * k) scale (eighth * k)
-unfolding scale eighth
 rounded-near F k t =
     let m = mag binary64 (inverse k) in
     let a = eqb (F / k * k) F in
-    let b = leb (m * k) (2 ^ 1074 + 2 ^ 1018 * k) in
-    let c = leb (2 ^ 1074) (m * k + 2 ^ 1018 * k) in
-    (leb→le (m * k) (2 ^ 1074 + 2 ^ 1018 * k) (and-r a b (and-l (a && b) c t)), leb→le (2 ^ 1074) (m * k + 2 ^ 1018 * k) (and-r (a && b) c t))
+    let b = leb (m * k) (scale + eighth * k) in
+    let c = leb scale (m * k + eighth * k) in
+    (leb→le (m * k) (scale + eighth * k) (and-r a b (and-l (a && b) c t)), leb→le scale (m * k + eighth * k) (and-r (a && b) c t))
 
 head-rounded : (F e k : ℕ) (ks ts : List ℕ) → T (tested F e (k ∷ ks) ts) → T (rounded F k)
-head-rounded F e k [] ts t = and-l (rounded F k) (leb (25 * (2 ^ 1018 * F) + 16 * (total (quotients F ts) * 2 ^ 1074)) (25 * (e * 2 ^ 1018 * F))) t
-head-rounded F e k (j ∷ ks) ts t = and-l (rounded F k) (leb (2 * mag binary64 (inverse j)) (2 ^ 1074)) (and-l (rounded F k && leb (2 * mag binary64 (inverse j)) (2 ^ 1074)) (tested F e (j ∷ ks) ts) t)
+head-rounded F e k [] ts t = and-l (rounded F k) (leb (25 * (eighth * F) + 16 * (total (quotients F ts) * scale)) (25 * (e * eighth * F))) t
+head-rounded F e k (j ∷ ks) ts t = and-l (rounded F k) (leb (2 * mag binary64 (inverse j)) scale) (and-l (rounded F k && leb (2 * mag binary64 (inverse j)) scale) (tested F e (j ∷ ks) ts) t)
 
 tail-tested : (F e k j : ℕ) (ks ts : List ℕ) → T (tested F e (k ∷ j ∷ ks) ts) → T (tested F e (j ∷ ks) ts)
-tail-tested F e k j ks ts t = and-r (rounded F k && leb (2 * mag binary64 (inverse j)) (2 ^ 1074)) (tested F e (j ∷ ks) ts) t
+tail-tested F e k j ks ts t = and-r (rounded F k && leb (2 * mag binary64 (inverse j)) scale) (tested F e (j ∷ ks) ts) t
 
 next-half : (F e k j : ℕ) (ks ts : List ℕ) → T (tested F e (k ∷ j ∷ ks) ts) → 2 * mag binary64 (inverse j) ≤ scale
-unfolding scale
 next-half F e k j ks ts t =
-    let b = leb (2 * mag binary64 (inverse j)) (2 ^ 1074) in
-    leb→le (2 * mag binary64 (inverse j)) (2 ^ 1074) (and-r (rounded F k) b (and-l (rounded F k && b) (tested F e (j ∷ ks) ts) t))
+    let b = leb (2 * mag binary64 (inverse j)) scale in
+    leb→le (2 * mag binary64 (inverse j)) scale (and-r (rounded F k) b (and-l (rounded F k && b) (tested F e (j ∷ ks) ts) t))
 
 last-room : (F e k : ℕ) (ts : List ℕ) → T (tested F e (k ∷ []) ts) → 25 * (eighth * F) + 16 * (total (quotients F ts) * scale) ≤ 25 * (e * eighth * F)
-unfolding scale eighth
-last-room F e k ts t = leb→le _ _ (and-r (rounded F k) (leb (25 * (2 ^ 1018 * F) + 16 * (total (quotients F ts) * 2 ^ 1074)) (25 * (e * 2 ^ 1018 * F))) t)
+last-room F e k ts t = leb→le _ _ (and-r (rounded F k) (leb (25 * (eighth * F) + 16 * (total (quotients F ts) * scale)) (25 * (e * eighth * F))) t)
 
 -- ---- the series
 half-of : (x z w : ℕ) → 2 * z ≤ w → x ≤ z → 2 * x ≤ w
