@@ -1,3 +1,4 @@
 pub mod Exponent
 pub mod Ranges
 pub mod Sign
+pub mod Finite

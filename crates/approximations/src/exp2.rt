@@ -42,14 +42,14 @@ fn power_near(n: f64) -> f64
     f64::from_bits(f64::to_bits(n + BIAS) << 52)
 }
 
-// For a value from -1022 up and below 1023.
+// For a value from -1022 up and below 1023, of which the product is always finite.
 pub(crate) fn exp2_near(value: f64) -> f64
     requires { ⌜ T (le (fin true 511 (pos 1)) value) ⌝ }
     requires { ⌜ T (lt value (fin false 1023 (pos 0))) ⌝ }
     ensures { λ r. ⌜ r ≡ exp2Of value ⌝ }
 {
     let n = floor_near(value);
-    finite_or_zero(polynomial(value - n) * power_near(n))
+    polynomial(value - n) * power_near(n)
 }
 
 // Whether `exp2_near` takes it.

@@ -1,7 +1,7 @@
 -- A difference of two values whose signs are clear, the first no less than the second; and products, differences and sums that stay up to a value. Assumes nothing.
 use mathlib.Core.Path.{_≡_, sym, ap, _∙_, subst}
 use Prim.Native.Nat.{ℕ, _+_, _-_, _*_, _^_, _≤_, _<_}
-use native.Mathlib.Nat.{le-trans, not-le-of-lt, mul-comm, mul-assoc, mul-right-comm, mul-sub, mul-le-mul-right, mul-pos}
+use native.Mathlib.Nat.{le-trans, le-of-eq, not-le-of-lt, mul-comm, mul-assoc, mul-right-comm, mul-sub, mul-le-mul, mul-le-mul-right, mul-pos}
 use native.Mathlib.Omega.{arith}
 use mathlib.Core.Bool.{Bool, true, false, cond}
 use lib.Dec.{T, ltb, ltb→lt}
@@ -10,7 +10,7 @@ use lib.Ieee.{Float, nan, inf, fin, Format, low, up, down, round, sum, add, sub,
 use lib.Ieee.Fits.{down-pos, round-fits}
 use lib.Ieee.Scale.{round-same}
 use Rattle.doubles.specs.Arithmetic.{one}
-use Rattle.doubles.proofs.Magnitude.{mag, mag-val, plain, plain-val, add-at}
+use Rattle.doubles.proofs.Magnitude.{mag, mag-val, plain, plain-val, add-at, mul-at}
 use Rattle.doubles.proofs.Order.{mag-mono, mag-le, round-under-value}
 use Rattle.doubles.proofs.Interpolation.{mul-less, cross-mag, to-one}
 
@@ -65,6 +65,17 @@ pub mul-up-to : (f : Format) (c t x : Float) → T (fits f c) → T (plain c) �
 mul-up-to f c t x h p u v =
     let r = mul-less f t x (u .0) (v .0) (u .1) (v .1) (to-one f t (u .0) (u .1) (u .2)) in
     (r .0, r .1, mag-le f (mul f t x) c (r .0) h (r .1) p (le-trans (r .2) (mag-mono f x c (v .0) h (v .1) p (v .2))))
+
+-- factors up to c and to d, and a product up to e
+pub mul-up-to-both : (f : Format) (c d e x y : Float) → T (fits f c) → T (fits f d) → T (fits f e) → T (plain c) → T (plain d) → T (plain e) → mag f c * mag f d ≤ mag f e * 2 ^ low f → UpTo f c x → UpTo f d y → UpTo f e (mul f x y)
+mul-up-to-both f c d e x y h i j p q r g v w =
+    let u = 2 ^ low f in
+    let U = pow-pos (low f) in
+    let n = mag f x * mag f y in
+    let k = mul-at f x y (mag f x) u (mag f y) u U U (plain-val f x (v .0) (v .1)) (plain-val f y (w .0) (w .1)) in
+    let l = le-trans (mul-le-mul (mag-mono f x c (v .0) h (v .1) p (v .2)) (mag-mono f y d (w .0) i (w .1) q (w .2))) g in
+    let z = round-under-value f n (u * u) e j r (mul-pos U U) (le-trans (mul-le-mul-right u l) (le-of-eq (mul-assoc (mag f e) u u))) in
+    subst (λ (t : Float). UpTo f e t) (sym k) (round-fits f false n (u * u), z .0, mag-le f (round f false n (u * u)) e (round-fits f false n (u * u)) j (z .0) r (z .1))
 
 -- x - y is up to c where y is up to x, and x to y + c
 room : (x y c l : ℕ) → x ≤ y + c → (x - y) * l ≤ c * l

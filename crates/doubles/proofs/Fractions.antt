@@ -2,9 +2,10 @@
 use mathlib.Core.Path.{_≡_, refl, sym, ap, _∙_}
 use Prim.Native.Nat.{ℕ, _+_, _-_, _*_, _≤_, _<_}
 use native.Mathlib.Nat.{le-of-eq, lt-of-lt-of-le, lt-of-le-of-lt, lt-of-mul-lt-mul-right, mul-lt-mul-of-pos-right, zero-mul, add-mul, mul-sub, mul-assoc, mul-comm, mul-left-comm, mul-pos, mul-right-comm, eq-of-mul-eq-mul-right}
-use mathlib.Core.Bool.{Bool, true, false, _&&_, cond, Bool·beq}
+use native.Mathlib.Omega.{arith}
+use mathlib.Core.Bool.{Bool, true, false, not, _&&_, cond, Bool·beq}
 use lib.Arith.{le→nltb}
-use lib.Dec.{T, ltb, ltb→lt, lt→ltb}
+use lib.Dec.{T, ltb, ltb→lt, lt→ltb, nltb→le}
 use lib.Ieee.{Float, nan, inf, fin, Format, up, down, round, sum, add, below, lt}
 use lib.Ieee.Fits.{down-pos}
 use lib.Ieee.Bits.{is-true, cond-no}
@@ -70,9 +71,14 @@ pub sum-minus : (f : Format) (a b c : ℕ) → a < b → sum f false a true b c 
 unfolding sum
 sum-minus f a b c h = ap (λ (t : Bool). cond t (round f true (b - a) c) (round f false (a - b) c)) (is-true (ltb a b) (lt→ltb a b h))
 
-pub sum-turned : (f : Format) (a b c : ℕ) → a < b → sum f true a false b c ≡ round f false (b - a) c
+pub sum-turned : (f : Format) (a b c : ℕ) → a ≤ b → sum f true a false b c ≡ round f false (b - a) c
 unfolding sum
-sum-turned f a b c h = ap (λ (t : Bool). cond t (round f false (b - a) c) (round f (ltb b a) (a - b) c)) (is-true (ltb a b) (lt→ltb a b h))
+sum-turned f a b c h = go (ltb a b) (ltb b a) (ltb→lt b a) (nltb→le a b)
+  where
+    go : (t u : Bool) → (T u → b < a) → (T (not t) → b ≤ a) → cond t (round f false (b - a) c) (round f (true && u) (a - b) c) ≡ round f false (b - a) c
+    go true u k l = refl
+    go false true k l = let g = k tt in absurd (omega arith)
+    go false false k l = let g = l tt in let z : a - b ≡ b - a = omega arith in ap (λ (n : ℕ). round f false n c) z
 
 -- ---- x = a / c and y = b / d over the denominator c * d
 ruleset products = (mul-assoc, mul-comm, mul-left-comm)

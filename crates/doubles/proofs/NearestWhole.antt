@@ -195,7 +195,7 @@ add-shift s m e N h P = add-of binary64 (fin s m e) shift s (m * up e) (down e) 
         let k : m * up e * 1 + W * down e ≡ N = omega arith in
         ap (λ (n : ℕ). round binary64 false n (down e * 1)) k ∙ ap (λ (d : ℕ). round binary64 false N d) (mul-one (down e))
     at true h =
-        let l : m * up e * 1 < W * down e = omega arith in
+        let l : m * up e * 1 ≤ W * down e = omega arith in
         let k : W * down e - m * up e * 1 ≡ N = omega arith in
         sum-turned binary64 (m * up e * 1) (W * down e) (down e * 1) l ∙ ap (λ (n : ℕ). round binary64 false n (down e * 1)) k ∙ ap (λ (d : ℕ). round binary64 false N d) (mul-one (down e))
 

@@ -89,7 +89,7 @@ gap-sum : (s t : Bool) (p q : ℕ) → below t q s p ≡ true → (f : Format) (
 gap-sum false false p q h f c = sum-plain f p q c (omega (arith, ltb-true q p h))
 gap-sum false true p q h f c = unfold sum in refl
 gap-sum true false p q h f c = absurd (true≢false (sym h))
-gap-sum true true p q h f c = sum-turned f p q c (ltb-true p q h)
+gap-sum true true p q h f c = sum-turned f p q c (le-of-lt (ltb-true p q h))
 
 -- where ±e is not below ±p
 gap-order : (s t r : Bool) (p q e : ℕ) → below t q s p ≡ true → below r e s p ≡ false → gap s p t q ≤ gap r e t q

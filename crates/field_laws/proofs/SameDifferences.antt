@@ -152,7 +152,7 @@ sum-left : (a b c : ℕ) → a ≡ 0 → a < b → sum binary64 true a false b c
 unfolding sum
 sum-left a b c e l =
     let q : b - a ≡ a + b = omega arith in
-    sum-turned binary64 a b c l ∙ ap (λ (z : ℕ). round binary64 false z c) q
+    sum-turned binary64 a b c (omega arith) ∙ ap (λ (z : ℕ). round binary64 false z c) q
 
 -- a zero from what is above it, and what is below a zero from it
 sub-right : (x : Float) → T (lt (signed false) x) → x ⊖ signed true ≡ x ⊖ signed false

@@ -88,7 +88,7 @@ module _ (z : ℤ) (lo : T (leZ (negsuc 1021) z)) (hi : T (leZ z (pos 1022))) wh
           ap (λ (n : ℕ). round binary64 false n 1) e
       at (negsuc k) lo hi =
           let h = leb→le k 1021 lo in
-          let l : suc k * 1 < 4503599627371519 = omega arith in
+          let l : suc k * 1 ≤ 4503599627371519 = omega arith in
           let e : 4503599627371519 - suc k * 1 ≡ 2 ^ 52 + (1022 - k) = omega arith in
           sum-turned binary64 (suc k * 1) 4503599627371519 1 l ∙ ap (λ (n : ℕ). round binary64 false n 1) e
 
@@ -128,7 +128,7 @@ module _ (z : ℤ) (lo : T (leZ (negsuc 1021) z)) (hi : T (leZ z (pos 1022))) wh
       not-over (pos q) hi = let h = leb→le q 1022 hi in is-false (ltb 1023 q) (le→nltb 1023 q (omega arith))
       not-over (negsuc k) hi = refl
 
-  whole-back : toSigned 31 (ofInt binary64 z) ≡ z
+  pub whole-back : toSigned 31 (ofInt binary64 z) ≡ z
   whole-back = at z lo hi
     where
       at : (z : ℤ) → T (leZ (negsuc 1021) z) → T (leZ z (pos 1022)) → toSigned 31 (ofInt binary64 z) ≡ z

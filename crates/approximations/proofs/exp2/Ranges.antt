@@ -23,20 +23,27 @@ use Rattle.doubles.proofs.Floors.{zeroF, zero-is}
 use Rattle.doubles.proofs.NearestWhole.{minus, int-value, floorInt, floor-int, floor-same, up-to, down-to, at-least, lt-le}
 
 -- ---- v from -1022 up and below 1023
-abbrev Bound : Bool → ℕ → ℕ → Type 0
+abbrev pub Bound : Bool → ℕ → ℕ → Type 0
 Bound false a D = a < 1023 * D
 Bound true a D = a ≤ 1022 * D
+
+pub bound : (s : Bool) (m : ℕ) (e : ℤ) → T (le (fin true 511 (pos 1)) (fin s m e)) → T (lt (fin s m e) (fin false 1023 (pos 0))) → Bound s (m * up e) (down e)
+unfolding le lt eq
+bound false m e p q = let l = ltb→lt (m * up e * 1) (1023 * 1 * down e) q in omega arith
+bound true m e p q = let l = at-least (511 * 2 ^ 1 * down e) (m * up e * 1) p in omega arith
+
+pub room : (s : Bool) (m : ℕ) (e : ℤ) → Bound s (m * up e) (down e) → m * up e ≤ 2 ^ 53 * down e
+room false m e b = omega arith
+room true m e b = omega arith
 
 abbrev Between : Float → Type 0
 Between v = (s : Bool) × (m : ℕ) × (e : ℤ) × (v ≡ fin s m e) × Bound s (m * up e) (down e)
 
 between : (v : Float) → T (le (fin true 511 (pos 1)) v) → T (lt v (fin false 1023 (pos 0))) → Between v
-unfolding le lt eq
-between nan p q = absurd q
-between (inf true) p q = absurd p
-between (inf false) p q = absurd q
-between (fin false m e) p q = let l = ltb→lt (m * up e * 1) (1023 * 1 * down e) q in (false, m, e, refl, omega arith)
-between (fin true m e) p q = let l = at-least (511 * 2 ^ 1 * down e) (m * up e * 1) p in (true, m, e, refl, omega arith)
+between nan p q = unfold lt in absurd q
+between (inf true) p q = unfold le lt eq in absurd p
+between (inf false) p q = unfold lt in absurd q
+between (fin s m e) p q = (s, m, e, refl, bound s m e p q)
 
 -- so v is in the range of `floor_near`
 abbrev InRange : Float → Type 0
@@ -52,7 +59,7 @@ in-range-at true m e b =
     (lt-le (fin true 1 (pos 51)) (fin true m e) (lt→ltb (m * up e * 1) (1 * 2 ^ 51 * down e) (omega arith)), lt→ltb 0 (m * up e * 1 + 1 * 2 ^ 51 * down e) (omega arith))
 
 -- its floor is from -1022 to 1022
-exponent-bounds : (s : Bool) (a D : ℕ) → 0 < D → Bound s a D → T (leZ (negsuc 1021) (floorInt s a D)) × T (leZ (floorInt s a D) (pos 1022))
+pub exponent-bounds : (s : Bool) (a D : ℕ) → 0 < D → Bound s a D → T (leZ (negsuc 1021) (floorInt s a D)) × T (leZ (floorInt s a D) (pos 1022))
 exponent-bounds false a D P b = (tt, le→leb (a / D) 1022 (le-of-suc-le-suc (div-lt-iff-lt-mul P .1 b)))
 exponent-bounds true a D P b = at ((a + (D - 1)) / D) (up-to a D 1022 P b)
   where
@@ -63,11 +70,7 @@ exponent-bounds true a D P b = at ((a + (D - 1)) / D) (up-to a D 1022 P b)
 exponent-at : (s : Bool) (m : ℕ) (e : ℤ) → Bound s (m * up e) (down e) → NormalExponent (floorOf binary64 (fin s m e) ⊕ zeroF)
 exponent-at s m e b =
     let r = exponent-bounds s (m * up e) (down e) (down-pos e) b in
-    (floorInt s (m * up e) (down e), floor-int s m e (room s b), r .0, r .1)
-  where
-    room : (s : Bool) → Bound s (m * up e) (down e) → m * up e ≤ 2 ^ 53 * down e
-    room false b = omega arith
-    room true b = omega arith
+    (floorInt s (m * up e) (down e), floor-int s m e (room s m e b), r .0, r .1)
 
 -- ---- a whole number from -1022 to 1022 fits 32 bits
 int-lt : (z w : ℤ) → natAbs z ≤ 2 ^ 53 → natAbs w ≤ 2 ^ 53 → lt (ofInt binary64 z) (ofInt binary64 w) ≡ below (minus z) (natAbs z * 1) (minus w) (natAbs w * 1)

@@ -1,13 +1,13 @@
 -- `exp2Of` is finite, and its sign is clear, so that it is above 0 or 0: the fraction v - n has no sign, since n is no more than v, and all that is added and multiplied has none. Assumes nothing.
 use mathlib.Core.Path.{_≡_, refl, sym, ap, _∙_, subst}
 use Prim.Native.Nat.{ℕ, _+_, _-_, _*_, _/_, _^_, _≤_, _<_}
-use native.Mathlib.Nat.{le-trans, le-of-eq, lt-irrefl, lt-of-lt-of-le, mul-one, mul-right-comm, mul-le-mul-right, le-of-mul-le-mul-right, div-mul-le-self, lt-div-mul-add, zero-lt-suc}
+use native.Mathlib.Nat.{le-trans, le-of-eq, mul-one, mul-right-comm, mul-le-mul-right, le-of-mul-le-mul-right, div-mul-le-self, lt-div-mul-add, zero-lt-suc}
 use native.Mathlib.Omega.{arith}
-use mathlib.Core.Bool.{Bool, true, false, not, _&&_, cond}
+use mathlib.Core.Bool.{Bool, true, false, not, cond}
 use lib.IntN.{ℤ}
-use lib.Dec.{T, ltb, ltb→lt}
+use lib.Dec.{T}
 use lib.Pow.{pow-pos}
-use lib.Ieee.{Float, nan, inf, fin, Format, binary64, low, up, down, round, sum, add, sub, neg, lt, le, fits, toSigned}
+use lib.Ieee.{Float, nan, inf, fin, Format, binary64, low, up, down, round, add, sub, neg, lt, le, fits, toSigned}
 use lib.Ieee.Fits.{down-pos, round-fits, neg-fits, mul-fits}
 use lib.Ieee.Exact.{HasValue}
 use lib.Ieee.Scale.{finite}
@@ -20,7 +20,7 @@ use Rattle.doubles.proofs.Order.{mag-mono, round-ge, round-under-value}
 use Rattle.doubles.proofs.Signs.{clear, round-clear, cond-clear, add-clear, mul-clear}
 use Rattle.doubles.proofs.Interpolation.{round-neg}
 use Rattle.doubles.proofs.AddZero.{not-above}
-use Rattle.doubles.proofs.Fractions.{add-of, sum-plain}
+use Rattle.doubles.proofs.Fractions.{add-of, sum-plain, sum-turned}
 
 -- ---- finite
 finite-cond : (x : Float) → T (finite (finiteOrZero x))
@@ -40,7 +40,7 @@ exp2-finite v =
     finite-choice (finite v) (exp2At v n) zero (finite-choice (outside32 n) zero (finiteOrZero r) tt (finite-cond r)) tt
 
 -- ---- x - y for a y up to x, and y - x
-neg-value : (y : Float) (s : Bool) (b d : ℕ) → HasValue y s b d → HasValue (neg y) (not s) b d
+pub neg-value : (y : Float) (s : Bool) (b d : ℕ) → HasValue y s b d → HasValue (neg y) (not s) b d
 unfolding neg
 neg-value nan s b d h = h
 neg-value (inf t) s b d h = h
@@ -51,15 +51,6 @@ unfolding sub
 less-clear f x y a c b d C D v w h =
     subst (λ (z : Float). T (clear z)) (sym (add-of f x (neg y) false a c true b d C D v (neg-value y false b d w) ∙ sum-plain f (a * d) (b * c) (c * d) h)) (round-clear f (a * d - b * c) (c * d))
 
-turned-clear : (f : Format) (a b c : ℕ) → a ≤ b → T (clear (sum f true a false b c))
-unfolding sum
-turned-clear f a b c h = go (ltb a b) (ltb b a) (ltb→lt b a)
-  where
-    go : (t u : Bool) → (T u → b < a) → T (clear (cond t (round f false (b - a) c) (round f (true && u) (a - b) c)))
-    go true u k = round-clear f (b - a) c
-    go false true k = absurd (lt-irrefl b (lt-of-lt-of-le (k tt) h))
-    go false false k = round-clear f (a - b) c
-
 -- ---- the floor q / 1 of a / D, in units of 2 ^ -low
 down-units : (a D q l M : ℕ) → 0 < D → q * D ≤ a → a * l ≡ M * D → q * l ≤ M * 1
 down-units a D q l M P h e = le-of-mul-le-mul-right (le-trans (le-of-eq (mul-right-comm q l D)) (le-trans (mul-le-mul-right l h) (le-of-eq (e ∙ ap (λ (z : ℕ). z * D) (sym (mul-one M)))))) P
@@ -67,7 +58,7 @@ down-units a D q l M P h e = le-of-mul-le-mul-right (le-trans (le-of-eq (mul-rig
 up-units : (a D q l M : ℕ) → 0 < D → a ≤ q * D → a * l ≡ M * D → M * 1 ≤ q * l
 up-units a D q l M P h e = le-of-mul-le-mul-right (le-trans (le-of-eq (ap (λ (z : ℕ). z * D) (mul-one M) ∙ sym e)) (le-trans (mul-le-mul-right l h) (le-of-eq (mul-right-comm q D l)))) P
 
-up-from : (a D : ℕ) → 0 < D → a ≤ (a + (D - 1)) / D * D
+pub up-from : (a D : ℕ) → 0 < D → a ≤ (a + (D - 1)) / D * D
 up-from a D P = let h : a + (D - 1) < (a + (D - 1)) / D * D + D = lt-div-mul-add P in omega arith
 
 -- -|v| + w, for a w from |v| up
@@ -80,7 +71,7 @@ over-clear f m e (fin false n g) h k c l =
     let U = pow-pos (low f) in
     let x = fin false m e in
     let y = fin false n g in
-    subst (λ (z : Float). T (clear z)) (sym (add-of f (fin true m e) y true (mag f x) u false (mag f y) u U U (refl, mag-val f x h tt .1) (plain-val f y k tt))) (turned-clear f (mag f x * u) (mag f y * u) (u * u) (mul-le-mul-right u (mag-mono f x y h k tt tt l)))
+    subst (λ (z : Float). T (clear z)) (sym (add-of f (fin true m e) y true (mag f x) u false (mag f y) u U U (refl, mag-val f x h tt .1) (plain-val f y k tt) ∙ sum-turned f (mag f x * u) (mag f y * u) (u * u) (mul-le-mul-right u (mag-mono f x y h k tt tt l)))) (round-clear f (mag f y * u - mag f x * u) (u * u))
 
 twice : (w : Float) → neg (neg w) ≡ w
 unfolding neg

@@ -1,10 +1,11 @@
--- `approximations::exp2::exp2_near` meets its contract, by `proofs/exp2/Ranges.antt`. Assumes nothing.
+-- `approximations::exp2::exp2_near` meets its contract, by `proofs/exp2/Ranges.antt` and `Finite.antt`. Assumes nothing.
 use mathlib.Core.Path.{sym, subst}
 use borrow.Author.Needs.{needs}
 use lib.Dec.{T}
 use lib.Ieee.{Float, binary64, fits}
 use Rattle.approximations.specs.Exp2.{NormalExponent}
-use Rattle.approximations.proofs.exp2.Ranges.{in-range, exponent, product-is}
+use Rattle.approximations.proofs.exp2.Finite.{near-is}
+use Rattle.approximations.proofs.exp2.Ranges.{in-range, exponent}
 use Rattle.approximations.proofs.exp2.exp2_near.Statement.{statement}
 use Rattle.approximations.proofs.exp2.exp2_near.Tie as tie
 
@@ -27,17 +28,13 @@ power-near-requires c κs =
     let r = in-range (v s) (held s) (s .pre .0) (s .pre .1) in
     subst NormalExponent (sym (a .floor-near .ensures .1 (r .0) (r .1))) (exponent (v s) (held s) (s .pre .0) (s .pre .1))
 
-finite-or-zero-requires : tie.Need-finite-or-zero-requires
-finite-or-zero-requires c κs = search needs
-
 returns : tie.Need-returns
 returns c =
-    let w = c .before in
-    let p = w .before in
+    let p = c .before in
     let a = p .before in
     let s = a .before in
     let r = in-range (v s) (held s) (s .pre .0) (s .pre .1) in
-    rw (c .finite-or-zero .ensures, w .power-near .ensures, p .polynomial .ensures, a .floor-near .ensures .1 (r .0) (r .1)) (product-is (v s) (held s) (s .pre .0) (s .pre .1))
+    rw (c .power-near .ensures, p .polynomial .ensures, a .floor-near .ensures .1 (r .0) (r .1)) (near-is (v s) (held s) (s .pre .0) (s .pre .1))
 
 pub exp2-near-spec : {M : Type 1} → statement M
 exp2-near-spec =
@@ -46,5 +43,4 @@ exp2-near-spec =
     floor-near-requires
     polynomial-requires
     power-near-requires
-    finite-or-zero-requires
     returns)
