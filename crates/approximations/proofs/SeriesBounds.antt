@@ -2,13 +2,13 @@
 use mathlib.Core.Path.{_≡_, refl, sym, subst}
 use mathlib.Core.List.{List, [], _∷_}
 use Prim.Native.Nat.{ℕ, zero, suc, _+_, _≤_}
-use native.Mathlib.Nat.{le-of-lt, le-refl, le-add-left, lt-of-not-le}
+use native.Mathlib.Nat.{le-of-lt, lt-of-not-le}
 use native.Mathlib.Omega.{arith}
 use mathlib.Core.Bool.{Bool, true, false, not, _&&_, cond}
 use lib.IntN.{pos, negsuc}
 use lib.Dec.{T, eqb·suc-zero, lit≤, T-not}
 use lib.ListN.{drop}
-use lib.Ieee.{Float, nan, inf, fin, Format, binary64, ofBits, round, add, sub, mul, div, sum, neg, le, ofInt, fits}
+use lib.Ieee.{Float, nan, inf, fin, binary64, ofBits, round, add, sub, mul, div, sum, neg, le, ofInt, fits}
 use lib.Ieee.Fits.{and-l, and-r, round-fits, cond-fits, sub-fits, mul-fits, div-fits}
 use lib.Ieee.Scale.{finite}
 use Rattle.doubles.specs.Arithmetic.{_⊖_, _⊗_, one}
@@ -17,7 +17,7 @@ use Rattle.approximations.specs.Circular.{oddFactorials, evenFactorials,
 use Rattle.doubles.proofs.Magnitude.{mag, plain, plain-finite}
 use Rattle.doubles.proofs.Order.{mag-mono, mag-le}
 use Rattle.doubles.proofs.Interpolation.{one-fits, is-zero}
-use Rattle.doubles.proofs.Differences.{UpTo, up-to-more, mul-up-to, sub-up-to, add-up-to}
+use Rattle.doubles.proofs.Differences.{UpTo, up-to-self, up-to-more, mul-up-to, sub-up-to, rest-up-to, add-up-to}
 use Rattle.doubles.proofs.Bound.{zero-le-plain}
 use Rattle.doubles.proofs.AddZero.{zero-is}
 
@@ -40,22 +40,17 @@ tail-falling k j ks t = and-r (plain (inverse k) && le (inverse j) (inverse k)) 
 pub inverse-fits : (k : ℕ) → T (fits binary64 (inverse k))
 inverse-fits k = div-fits binary64 one (ofInt binary64 (pos k))
 
--- what a step takes off, and what it leaves
+-- what a step takes off
 taken-off : (y t : Float) (k j : ℕ) (ks : List ℕ) → T (falling (k ∷ j ∷ ks)) → UpTo binary64 one y → UpTo binary64 (inverse j) t → UpTo binary64 (inverse k) (y ⊗ t)
 taken-off y t k j ks w u v =
     let p = head-plain k (j ∷ ks) w in
     mul-up-to binary64 (inverse k) y t (inverse-fits k) p u (up-to-more binary64 (inverse j) (inverse k) t (inverse-fits j) (inverse-fits k) (head-plain j ks (tail-falling k j ks w)) p (next-less k j ks w) v)
 
-left-over : (f : Format) (c z : Float) → T (fits f c) → T (plain c) → UpTo f c z → UpTo f c (sub f c z)
-left-over f c z h p w = sub-up-to f c c z h h (w .0) p p (w .1) (w .2) (le-add-left (mag f c) (mag f z))
-
 pub series-up-to : (y : Float) (k : ℕ) (ks : List ℕ) → T (falling (k ∷ ks)) → UpTo binary64 one y → UpTo binary64 (inverse k) (series y (k ∷ ks))
 unfolding series
-series-up-to y k [] t u =
-    let h = inverse-fits k in
-    (h, t, mag-le binary64 (inverse k) (inverse k) h h t t (le-refl (mag binary64 (inverse k))))
+series-up-to y k [] t u = up-to-self binary64 (inverse k) (inverse-fits k) t
 series-up-to y k (j ∷ ks) t u =
-    left-over binary64 (inverse k) (y ⊗ series y (j ∷ ks)) (inverse-fits k) (head-plain k (j ∷ ks) t) (taken-off y (series y (j ∷ ks)) k j ks t u (series-up-to y j ks (tail-falling k j ks t) u))
+    rest-up-to binary64 (inverse k) (y ⊗ series y (j ∷ ks)) (inverse-fits k) (head-plain k (j ∷ ks) t) (taken-off y (series y (j ∷ ks)) k j ks t u (series-up-to y j ks (tail-falling k j ks t) u))
 
 pub product-up-to : (y : Float) (k j : ℕ) (ks : List ℕ) → T (falling (k ∷ j ∷ ks)) → UpTo binary64 one y → UpTo binary64 (inverse k) (y ⊗ series y (j ∷ ks))
 product-up-to y k j ks t u = taken-off y (series y (j ∷ ks)) k j ks t u (series-up-to y j ks (tail-falling k j ks t) u)

@@ -1,7 +1,7 @@
 -- A difference of two values whose signs are clear, the first no less than the second; and products, differences and sums that stay up to a value. Assumes nothing.
 use mathlib.Core.Path.{_≡_, sym, ap, _∙_, subst}
 use Prim.Native.Nat.{ℕ, _+_, _-_, _*_, _^_, _≤_, _<_}
-use native.Mathlib.Nat.{le-trans, le-of-eq, not-le-of-lt, mul-comm, mul-assoc, mul-right-comm, mul-sub, mul-le-mul, mul-le-mul-right, mul-pos}
+use native.Mathlib.Nat.{le-refl, le-trans, le-of-eq, le-add-left, add-le-add, not-le-of-lt, mul-comm, mul-assoc, mul-right-comm, mul-sub, mul-le-mul, mul-le-mul-right, mul-pos}
 use native.Mathlib.Omega.{arith}
 use mathlib.Core.Bool.{Bool, true, false, cond}
 use lib.Dec.{T, ltb, ltb→lt}
@@ -57,6 +57,9 @@ sub-at f (fin false m e) (fin false n g) h k p q l = go (ltb A B) (ltb→lt A B)
 abbrev pub UpTo : Format → Float → Float → Type 0
 UpTo f c x = T (fits f x) × T (plain x) × T (le x c)
 
+pub up-to-self : (f : Format) (c : Float) → T (fits f c) → T (plain c) → UpTo f c c
+up-to-self f c h p = (h, p, mag-le f c c h h p p (le-refl (mag f c)))
+
 pub up-to-more : (f : Format) (c d x : Float) → T (fits f c) → T (fits f d) → T (plain c) → T (plain d) → T (le c d) → UpTo f c x → UpTo f d x
 up-to-more f c d x h k p q l u = (u .0, u .1, mag-le f x d (u .0) k (u .1) q (le-trans (mag-mono f x c (u .0) h (u .1) p (u .2)) (mag-mono f c d h k p q l)))
 
@@ -88,6 +91,10 @@ sub-up-to f c x y h i j p q r l g =
     let z = round-under-value f (mag f x - mag f y) u c h p (pow-pos (low f)) (room (mag f x) (mag f y) (mag f c) u g) in
     subst (λ (w : Float). UpTo f c w) (sym e) (round-fits f false (mag f x - mag f y) u, z .0, mag-le f (round f false (mag f x - mag f y) u) c (round-fits f false (mag f x - mag f y) u) h (z .0) p (z .1))
 
+-- what x leaves of c is up to c
+pub rest-up-to : (f : Format) (c x : Float) → T (fits f c) → T (plain c) → UpTo f c x → UpTo f c (sub f c x)
+rest-up-to f c x h p u = sub-up-to f c c x h h (u .0) p p (u .1) (u .2) (le-add-left (mag f c) (mag f x))
+
 -- x + y is up to c
 sum-room : (x y c l : ℕ) → x + y ≤ c → (x * l + y * l) * l ≤ c * (l * l)
 sum-room x y c l h = let k = mul-le-mul-right (l * l) h in omega arith
@@ -100,3 +107,8 @@ add-up-to f c x y h i j p q r g =
     let n = mag f x * l + mag f y * l in
     let z = round-under-value f n (l * l) c h p (mul-pos L L) (sum-room (mag f x) (mag f y) (mag f c) l g) in
     subst (λ (w : Float). UpTo f c w) (sym e) (round-fits f false n (l * l), z .0, mag-le f (round f false n (l * l)) c (round-fits f false n (l * l)) h (z .0) p (z .1))
+
+-- terms up to c and to d, and a sum up to e
+pub add-up-to-both : (f : Format) (c d e x y : Float) → T (fits f c) → T (fits f d) → T (fits f e) → T (plain c) → T (plain d) → T (plain e) → mag f c + mag f d ≤ mag f e → UpTo f c x → UpTo f d y → UpTo f e (add f x y)
+add-up-to-both f c d e x y h i j p q r g v w =
+    add-up-to f e x y j (v .0) (w .0) r (v .1) (w .1) (le-trans (add-le-add (mag-mono f x c (v .0) h (v .1) p (v .2)) (mag-mono f y d (w .0) i (w .1) q (w .2))) g)

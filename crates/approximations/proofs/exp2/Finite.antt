@@ -1,7 +1,7 @@
 -- Of a v from -1022 up and below 1023 the product is finite, so that `exp2_near` need not test it: v - n is up to 1, the polynomial of that up to 5/2, and 2 ^ n up to 2 ^ 1022. Assumes nothing.
 use mathlib.Core.Path.{_≡_, refl, sym, _∙_, subst}
 use Prim.Native.Nat.{ℕ, zero, suc, _+_, _-_, _*_, _/_, _^_, _≤_, _<_}
-use native.Mathlib.Nat.{le-refl, le-trans, le-of-eq, le-of-lt, add-le-add, le-mul-of-pos-right, zero-lt-suc, zero-mul, mul-one, mul-comm, mul-le-mul, mul-le-mul-right, mul-pos, div-mul-le-self, lt-div-mul-add, div-lt-iff-lt-mul}
+use native.Mathlib.Nat.{le-refl, le-trans, le-of-eq, le-of-lt, le-mul-of-pos-right, zero-lt-suc, zero-mul, mul-one, mul-comm, mul-le-mul, mul-le-mul-right, mul-pos, div-mul-le-self, lt-div-mul-add, div-lt-iff-lt-mul}
 use native.Mathlib.Omega.{arith}
 use mathlib.Core.Bool.{Bool, true, false, not}
 use lib.IntN.{ℤ, pos, negsuc, negℤ}
@@ -15,9 +15,9 @@ use Rattle.doubles.specs.Arithmetic.{_⊕_, _⊖_, _⊗_, dec, whole, one}
 use Rattle.doubles.specs.Floor.{floorOf}
 use Rattle.doubles.specs.Power.{pow2Of}
 use Rattle.doubles.proofs.Magnitude.{mag, plain, plain-finite}
-use Rattle.doubles.proofs.Order.{mag-mono, mag-le, round-under-value}
+use Rattle.doubles.proofs.Order.{mag-le, round-under-value}
 use Rattle.doubles.proofs.Interpolation.{one-fits}
-use Rattle.doubles.proofs.Differences.{UpTo, mul-up-to-both, add-up-to}
+use Rattle.doubles.proofs.Differences.{UpTo, up-to-self, mul-up-to-both, add-up-to-both}
 use Rattle.doubles.proofs.Fractions.{add-of, sum-plain, sum-turned}
 use Rattle.doubles.proofs.AddZero.{minusZero}
 use Rattle.doubles.proofs.Floors.{zeroF, zero-is}
@@ -109,15 +109,6 @@ third-plain : T (plain A3)
 unfolding round
 third-plain = tt
 
-itself : (c : Float) → T (fits binary64 c) → T (plain c) → UpTo binary64 c c
-itself c h p = (h, p, mag-le binary64 c c h h p p (le-refl (mag binary64 c)))
-
--- a sum of two that are up to c and up to d
-together : (c d e x y : Float) → T (fits binary64 c) → T (fits binary64 d) → T (fits binary64 e) → T (plain c) → T (plain d) → T (plain e) → mag binary64 c + mag binary64 d ≤ mag binary64 e
-    → UpTo binary64 c x → UpTo binary64 d y → UpTo binary64 e (x ⊕ y)
-together c d e x y h i j p q r g v w =
-    add-up-to binary64 e x y j (v .0) (w .0) r (v .1) (w .1) (le-trans (add-le-add (mag-mono binary64 x c (v .0) h (v .1) p (v .2)) (mag-mono binary64 y d (w .0) i (w .1) q (w .2))) g)
-
 -- 7/4, 9/4 and 5/2
 abbrev afterFirst : Float
 afterFirst = fin false 7 (negsuc 1)
@@ -149,12 +140,12 @@ polynomial-up-to x u =
     let f1 = round-fits binary64 false 686279297 (10 ^ 9) in
     let f2 = round-fits binary64 false 254821777 (10 ^ 9) in
     let f3 = round-fits binary64 false 588989258 (10 ^ 10) in
-    let a = scaled 686279297 9 A1 x first-plain (itself A1 f1 first-plain) u in
-    let b = scaled 254821777 9 (A2 ⊗ x) x second-plain (scaled 254821777 9 A2 x second-plain (itself A2 f2 second-plain) u) u in
-    let c = scaled 588989258 10 (A3 ⊗ x ⊗ x) x third-plain (scaled 588989258 10 (A3 ⊗ x) x third-plain (scaled 588989258 10 A3 x third-plain (itself A3 f3 third-plain) u) u) u in
-    let p = together one A1 afterFirst one (A1 ⊗ x) (one-fits binary64) f1 (after-fits .0) tt first-plain tt first-room (itself one (one-fits binary64) tt) a in
-    let q = together afterFirst A2 afterSecond (one ⊕ A1 ⊗ x) (A2 ⊗ x ⊗ x) (after-fits .0) f2 (after-fits .1) tt second-plain tt second-room p b in
-    together afterSecond A3 afterThird (one ⊕ A1 ⊗ x ⊕ A2 ⊗ x ⊗ x) (A3 ⊗ x ⊗ x ⊗ x) (after-fits .1) f3 (after-fits .2) tt third-plain tt third-room q c
+    let a = scaled 686279297 9 A1 x first-plain (up-to-self binary64 A1 f1 first-plain) u in
+    let b = scaled 254821777 9 (A2 ⊗ x) x second-plain (scaled 254821777 9 A2 x second-plain (up-to-self binary64 A2 f2 second-plain) u) u in
+    let c = scaled 588989258 10 (A3 ⊗ x ⊗ x) x third-plain (scaled 588989258 10 (A3 ⊗ x) x third-plain (scaled 588989258 10 A3 x third-plain (up-to-self binary64 A3 f3 third-plain) u) u) u in
+    let p = add-up-to-both binary64 one A1 afterFirst one (A1 ⊗ x) (one-fits binary64) f1 (after-fits .0) tt first-plain tt first-room (up-to-self binary64 one (one-fits binary64) tt) a in
+    let q = add-up-to-both binary64 afterFirst A2 afterSecond (one ⊕ A1 ⊗ x) (A2 ⊗ x ⊗ x) (after-fits .0) f2 (after-fits .1) tt second-plain tt second-room p b in
+    add-up-to-both binary64 afterSecond A3 afterThird (one ⊕ A1 ⊗ x ⊕ A2 ⊗ x ⊗ x) (A3 ⊗ x ⊗ x ⊗ x) (after-fits .1) f3 (after-fits .2) tt third-plain tt third-room q c
 
 -- ---- the power, up to 2 ^ 1022
 abbrev greatestPower : Float
