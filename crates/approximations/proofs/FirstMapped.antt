@@ -72,3 +72,10 @@ pub first-taken : (f : Float → Float) (n : ℕ) (xs : List Float) → take n (
 first-taken f zero xs = refl
 first-taken f (suc n) [] = refl
 first-taken f (suc n) (x ∷ xs) = ap (λ (l : List Float). f x ∷ l) (first-taken f n xs)
+
+-- one of the first n is mapped
+pub first-mapped : (f : Float → Float) (n i : ℕ) (xs : List Float) (d : Float) → i < n → i < length xs → getD (mapFirst n f xs) i d ≡ f (getD xs i d)
+first-mapped f n i [] d h k = absurd (not-suc-le-zero k)
+first-mapped f zero i (x ∷ xs) d h k = absurd (not-suc-le-zero h)
+first-mapped f (suc n) zero (x ∷ xs) d h k = refl
+first-mapped f (suc n) (suc i) (x ∷ xs) d h k = first-mapped f n i xs d (le-of-suc-le-suc h) (le-of-suc-le-suc k)

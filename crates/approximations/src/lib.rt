@@ -10,4 +10,5 @@ pub use circular::cosine;
 pub use circular::sine;
 pub use exp2::approx_exp2;
 pub use log2::approx_log2;
+pub use powers::approx_exp2_each;
 pub use powers::approx_powers;

@@ -110,6 +110,18 @@ fn exps(y: &mut [f64], n: usize)
     }
 }
 
+// Two to each of the first n; of all where there are fewer.
+pub fn approx_exp2_each(y: &mut [f64], n: usize)
+    ensures { λ _. ⌜ now (y .exit) ≡ mapFirst n exp2Of (now (y .entry)) ⌝ }
+{
+    let all = y.len();
+    if n < all {
+        exps(y, n);
+    } else {
+        exps(y, all);
+    }
+}
+
 fn powers_of(y: &mut [f64], n: usize, exponent: f64)
     requires { ⌜ n ≤ length (now y) ⌝ }
     ensures { λ _. ⌜ now (y .exit) ≡ mapFirst n (powerOf exponent) (now (y .entry)) ⌝ }

@@ -4,3 +4,4 @@ pub mod Ends
 pub mod Axes
 pub mod Field
 pub mod Steps
+pub mod Gathering

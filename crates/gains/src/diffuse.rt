@@ -4,7 +4,7 @@ ghost use mathlib.Core.Bool.{_||_, cond};
 ghost use mathlib.Core.List.{_++_};
 ghost use Prim.Native.Nat.{ℕ, _+_, _*_, _≤_};
 ghost use lib.Dec.{T, eqb};
-ghost use lib.Ieee.{nan, lt, eq};
+ghost use lib.Ieee.{Float, nan, lt, eq};
 ghost use lib.ListN.{length, getD, drop};
 ghost use Rattle.doubles.specs.Arithmetic.{_⊕_, _⊗_, _⊘_, dec, zero};
 ghost use Rattle.approximations.specs.Exp2.{exp2Of};
@@ -13,6 +13,7 @@ ghost use Rattle.extent.specs.Kernel.{shapedOf, exponentOf};
 ghost use Rattle.field.specs.Knots.{steps};
 ghost use Rattle.gains.specs.Walls.{nearestWall};
 ghost use Rattle.gains.specs.Diffuse.{placeRows, responseX, responseY, responseZ, lambdaOf, weightOf, compensatedOf, wallAt, ended, endRow, endProduct, diffuseOf};
+ghost use Rattle.gains.specs.Gathered.{aboveBefore, Gathered, scattered};
 ghost use Rattle.gains.specs.Lookup.{channels, listed, bracketOf, lookupOf};
 use crate::Bracket;
 use crate::Centre;
@@ -23,6 +24,7 @@ use crate::lookup::radius_bracket;
 use crate::walls::distance_of;
 use crate::walls::nearest_wall;
 use approximations::approx_exp2;
+use approximations::approx_exp2_each;
 use approximations::approx_log2;
 use extent::compact_quartic_kernel;
 use extent::shaping_exponent;
@@ -112,41 +114,42 @@ fn wall_fields(
     }
 }
 
-// The logarithm of a field; 0 where the field is not above 0.
-fn log_above(field: f64) -> f64
-    ensures { λ r. ⌜ r ≡ cond (lt zero field) (log2Of field) zero ⌝ }
-{
-    if field > 0.0 { approx_log2(field) } else { 0.0 }
-}
-
-// The logarithms of the fields over the exponent.
-fn logs(out: &mut [f64; 24], n: usize, fields: &[f64; 24], exponent: f64)
+// The logarithms of the fields above 0 over the exponent, one after another, and how many there are.
+fn gather(out: &mut [f64; 24], n: usize, fields: &[f64; 24], exponent: f64) -> usize
     requires { ⌜ n ≤ 24 ⌝ }
-    ensures { λ _. ⌜ now (out .exit) ≡ channels n (λ (k : ℕ). cond (lt zero (getD (now (fields .entry)) k nan)) (log2Of (getD (now (fields .entry)) k nan)) zero ⊘ exponent) ++ drop n (now (out .entry)) ⌝ }
+    ensures { λ r. ⌜ r ≡ aboveBefore (now (fields .entry)) n ⌝ }
+    ensures { λ _. ⌜ Gathered (λ (x : Float). log2Of x ⊘ exponent) (now (fields .entry)) n (now (out .exit)) ⌝ }
+    ensures { λ _. ⌜ length (now (out .exit)) ≡ 24 ⌝ }
 {
     let values: &mut [f64] = out;
+    let mut m = 0usize;
     let mut k = 0usize;
     while k < n {
-        values[k] = log_above(fields[k]) / exponent;
+        let field = fields[k];
+        if field > 0.0 {
+            values[m] = approx_log2(field) / exponent;
+            m += 1;
+        }
         k += 1;
     }
+    m
 }
 
-// 2 ^ log; 0 where the field is not above 0.
-fn power_above(field: f64, log: f64) -> f64
-    ensures { λ r. ⌜ r ≡ cond (lt zero field) (exp2Of log) zero ⌝ }
-{
-    if field > 0.0 { approx_exp2(log) } else { 0.0 }
-}
-
-fn powers(out: &mut [f64; 24], n: usize, logs: &[f64; 24])
+// Puts one value after another where the field is above 0, and 0 elsewhere.
+fn scatter(out: &mut [f64; 24], n: usize, gathered: &[f64; 24])
     requires { ⌜ n ≤ 24 ⌝ }
-    ensures { λ _. ⌜ now (out .exit) ≡ channels n (λ (k : ℕ). cond (lt zero (getD (now (out .entry)) k nan)) (exp2Of (getD (now (logs .entry)) k nan)) zero) ++ drop n (now (out .entry)) ⌝ }
+    ensures { λ _. ⌜ now (out .exit) ≡ channels n (scattered (now (out .entry)) (now (gathered .entry))) ++ drop n (now (out .entry)) ⌝ }
 {
     let values: &mut [f64] = out;
+    let mut m = 0usize;
     let mut k = 0usize;
     while k < n {
-        values[k] = power_above(values[k], logs[k]);
+        if values[k] > 0.0 {
+            values[k] = gathered[m];
+            m += 1;
+        } else {
+            values[k] = 0.0;
+        }
         k += 1;
     }
 }
@@ -157,8 +160,9 @@ fn unshape(out: &mut [f64; 24], n: usize, exponent: f64)
     ensures { λ _. ⌜ now (out .exit) ≡ channels n (λ (k : ℕ). cond (lt zero (getD (now (out .entry)) k nan)) (exp2Of (log2Of (getD (now (out .entry)) k nan) ⊘ exponent)) zero) ++ drop n (now (out .entry)) ⌝ }
 {
     let mut l = [0.0f64; 24];
-    logs(&mut l, n, out, exponent);
-    powers(out, n, &l);
+    let m = gather(&mut l, n, out, exponent);
+    approx_exp2_each(&mut l, m);
+    scatter(out, n, &l);
 }
 
 // Each channel with the end response of a wall, whose numbers begin at `ends`; a and b are the
