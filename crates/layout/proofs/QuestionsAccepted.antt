@@ -92,9 +92,9 @@ module _ (l : Layout) where
   unfolding question5
   yes5 e = both (ordered (map topologyZ (topologyOf l))) (all orderedLayer (topologyOf l)) e
 
-  pub yes6 : question6 l ≡ true → (all (λ (n : ℕ). elem n (activeNames l)) (map anchorName (usedAnchors l)) ≡ true) × (allDistinct (map anchorName (usedAnchors l)) ≡ true)
+  pub yes6 : question6 l ≡ true → all (λ (n : ℕ). elem n (activeNames l)) (map anchorName (usedAnchors l)) ≡ true
   unfolding question6
-  yes6 e = both (all (λ (n : ℕ). elem n (activeNames l)) (map anchorName (usedAnchors l))) (allDistinct (map anchorName (usedAnchors l))) e
+  yes6 e = e
 
 -- ---- the law
 module _ (l : Layout) (channels : length (l .channels) ≡ 24) (layers : length (l .layers) ≡ 4) (rows : length (l .rows) ≡ 24) (anchors : length (l .anchors) ≡ 24) where
@@ -140,8 +140,7 @@ module _ (l : Layout) (channels : length (l .channels) ≡ 24) (layers : length 
         zsOrdered = holds _ (zy .0);
         ysOrdered = λ i h. holds _ (part-at (map rowY (l .rows)) (rowStarts l) (l .depth) i (zy .1) h (rw (starts-length 0 (map layerCount (l .layers)), length-map (l .layers) layerCount) (omega arith)));
         xsOrdered = λ i h. holds _ (part-at (map anchorX (l .anchors)) (anchorStarts l) (length (usedRows l)) i (p .1) h (rw (starts-length 0 (map rowCount (l .rows)), length-map (l .rows) rowCount) (omega arith)));
-        anchorActive = λ i h. holds _ (all-map-at (λ (n : ℕ). elem n (activeNames l)) anchorName (total ns) (l .anchors) i noAnchor (q6 .0) h (omega arith));
-        anchorsDistinct = holds _ (q6 .1);
+        anchorActive = λ i h. holds _ (all-map-at (λ (n : ℕ). elem n (activeNames l)) anchorName (total ns) (l .anchors) i noAnchor q6 h (omega arith));
         channelsValid = holds _ (q1 .1);
         channelsDistinct = holds _ (q1 .2);
       }

@@ -47,9 +47,9 @@ module _ (l : Layout) where
   question3-is e = any-count active channelName (channelsOf l) ∙ ap not (ne-eqb (activeCount l) 0 e)
 
   pub question6-is : (n m : ℕ) (names out rest : List ℕ) → n ≡ length (usedAnchors l) → m ≡ activeCount l → names ≡ map anchorName (l .anchors) → out ≡ activeNames l ++ rest →
-      (all (λ (x : ℕ). elem x (take m out)) (take n names) && allDistinct (take n names)) ≡ question6 l
+      all (λ (x : ℕ). elem x (take m out)) (take n names) ≡ question6 l
   unfolding question6
   question6-is n m names out rest p q e f =
-      ap₂ (λ (a ns : List ℕ). all (λ (x : ℕ). elem x a) ns && allDistinct ns)
+      ap₂ (λ (a ns : List ℕ). all (λ (x : ℕ). elem x a) ns)
       (ap₂ take q f ∙ take-at (activeNames l) rest (activeCount l) refl)
       (ap₂ take p e ∙ names-taken anchorName (total (map rowCount (usedRows l))) (l .anchors))

@@ -38,8 +38,7 @@ pub record Accepted (l : Layout) : Type 0 where
   pub zsOrdered : T (ordered (take (l .depth) (map layerZ (l .layers))))
   pub ysOrdered : (i : ℕ) → i < l .depth → T (ordered (slice (getD (rowStarts l) i 0) (getD (rowStarts l) (suc i) 0) (map rowY (l .rows))))
   pub xsOrdered : (i : ℕ) → i < length (usedRows l) → T (ordered (slice (getD (anchorStarts l) i 0) (getD (anchorStarts l) (suc i) 0) (map anchorX (l .anchors))))
-  -- each anchor names an active channel; names are valid, and none stands twice among the channels or among the anchors
+  -- each anchor names an active channel; the channels' names are valid, and none stands twice
   pub anchorActive : (i : ℕ) → i < length (usedAnchors l) → T (elem (getD (l .anchors) i noAnchor .name) (activeNames l))
-  pub anchorsDistinct : T (allDistinct (map anchorName (usedAnchors l)))
   pub channelsValid : T (all validName (map channelName (channelsOf l)))
   pub channelsDistinct : T (allDistinct (map channelName (channelsOf l)))

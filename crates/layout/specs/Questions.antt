@@ -72,11 +72,9 @@ orderedLayer l = ordered (map topologyY (l .rows)) && all orderedRow (l .rows)
 unfoldable pub question5 : Layout → Bool
 question5 l = ordered (map topologyZ (topologyOf l)) && all orderedLayer (topologyOf l)
 
--- 6. Does each anchor name an active channel, none named twice?
+-- 6. Does each anchor name an active channel?
 unfoldable pub question6 : Layout → Bool
-question6 l =
-    let names = map anchorName (usedAnchors l) in
-    all (λ (n : ℕ). elem n (activeNames l)) names && allDistinct names
+question6 l = all (λ (n : ℕ). elem n (activeNames l)) (map anchorName (usedAnchors l))
 
 unfoldable pub layoutQuestions : Layout → List Question
 unfolding question1 question4 question5 question6

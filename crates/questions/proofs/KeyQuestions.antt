@@ -204,23 +204,21 @@ module _ (l : Layout) (e : ℕ) (key : List ℕ) (places : List Float) (p : Pack
             let m = named6 l (y .5) in
             let f = active-in-key (channelsOf l) key used channels-are names-are flags-are d in
             let g : all (activeIn key used) (slice 76 (76 + anchors) key) ≡ true =
-            rw anchor-names (all-weaken (λ (w : ℕ). elem w (activeNames l)) (activeIn key used) f (map anchorName (usedAnchors l)) (m .0)) in
-            let k : allDistinct (slice 76 (76 + anchors) key) ≡ true = rw anchor-names (m .1) in
+            rw anchor-names (all-weaken (λ (w : ℕ). elem w (activeNames l)) (activeIn key used) f (map anchorName (usedAnchors l)) m) in
             let j : allDistinct (take used key) ≡ true = rw names-are d in
-            false≢true (sym n ∙ ap₂ _&&_ (ap₂ _&&_ g k) j)
+            false≢true (sym n ∙ ap₂ _&&_ g j)
 
         module _ (named : namedBy key anchors ≡ true) where
-          on : (all (activeIn key used) (slice 76 (76 + anchors) key) ≡ true) × (allDistinct (slice 76 (76 + anchors) key) ≡ true)
-          on = let b = both (allActiveIn key used (slice 76 (76 + anchors) key)) (allDistinct (take used key)) named in both (all (activeIn key used) (slice 76 (76 + anchors) key)) (allDistinct (slice 76 (76 + anchors) key)) (b .0)
-
           all-active : all (λ (n : ℕ). elem n (activeNames l)) (map anchorName (usedAnchors l)) ≡ true
           all-active =
-              rw (← anchor-names)
-              (all-weaken (activeIn key used) (λ (n : ℕ). elem n (activeNames l)) (active-by-key (channelsOf l) key used channels-are names-are flags-are) (slice 76 (76 + anchors) key) (on .0))
+              let names = slice 76 (76 + anchors) key in
+              let a = both (allActiveIn key used names) (allDistinct (take used key)) named .0 in
+              let f = active-by-key (channelsOf l) key used channels-are names-are flags-are in
+              rw (← anchor-names) (all-weaken (activeIn key used) (λ (n : ℕ). elem n (activeNames l)) f names a)
 
           yes6 : question6 l ≡ true
           unfolding question6
-          yes6 = rw (all-active, ← anchor-names) (on .1)
+          yes6 = all-active
 
           yes3 : question3 l ≡ true
           yes3 =

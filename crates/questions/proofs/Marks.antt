@@ -1,18 +1,17 @@
 -- Laws for the loop that marks the channels that anchors name.
 use Prim.Native.Nat.{ℕ, suc, _+_, _≤_, _<_}
 use mathlib.Core.Path.{_≡_, refl, sym, ap, ap₂, _∙_}
-use mathlib.Core.Bool.{Bool, true, false, not, cond, _&&_, _||_, and-true, or-true, or-false, false≢true}
+use mathlib.Core.Bool.{Bool, true, false, cond, _&&_, _||_, and-true, or-true, or-false, false≢true}
 use mathlib.Core.List.{List, [], _∷_, _++_, map}
 use native.Mathlib.Numerals.{add-one, one-add}
 use native.Mathlib.Omega.{arith}
-use borrow.Author.Tests.{eq-eqb, ne-eqb, eqb-true, eqb-false, lt-ltb, le-ltb, not-true, not-false}
+use borrow.Author.Tests.{eq-eqb, ne-eqb, eqb-true, eqb-false, lt-ltb, le-ltb}
 use lib.Dec.{eqb}
 use lib.ListN.{length, take, drop, getD, set, length-set, length-drop, take-append-drop, replicate, getD-replicate}
 use lib.Seq.{slice, take-suc, take-take, length-take-le, getD-take, getD-drop, getD-set-same, getD-set-other}
-use Rattle.lists.specs.Lists.{all, allDistinct, elem, placeOf}
+use Rattle.lists.specs.Lists.{all, elem, placeOf}
 use Rattle.lists.proofs.Chunks.{slice-take}
-use Rattle.lists.proofs.Tests.{elem-append, distinct-snoc, distinct-append-not}
-use Rattle.layout.proofs.QuestionsCounted.{both}
+use Rattle.lists.proofs.Tests.{elem-append}
 use Rattle.layout.proofs.QuestionsLoops.{place-most}
 use Rattle.layout.proofs.TopologyLists.{all-append}
 use Rattle.questions.specs.KeyNames.{placeIn, activeIn, allActiveIn}
@@ -37,19 +36,6 @@ place-first x (y ∷ l) = go (eqb y x) refl (place-first x l)
     go true e f = refl
     go false e f = rw (one-add, e) f
 
--- two names with one place are equal
-place-same : (x y : ℕ) (l : List ℕ) → placeOf x l < length l → placeOf y l ≡ placeOf x l → y ≡ x
-place-same x y l h e = sym (place-at y l (omega arith)) ∙ ap (λ (i : ℕ). getD l i 0) e ∙ place-at x l h
-
--- the place of a name is one of the places of some names where it is one of them
-elem-places : (x : ℕ) (l : List ℕ) → placeOf x l < length l → (ws : List ℕ) → elem (placeOf x l) (map (λ (w : ℕ). placeOf w l) ws) ≡ elem x ws
-elem-places x l h [] = refl
-elem-places x l h (w ∷ ws) = ap₂ _||_ (go (eqb w x) refl) (elem-places x l h ws)
-  where
-    go : (b : Bool) → eqb w x ≡ b → eqb (placeOf w l) (placeOf x l) ≡ eqb w x
-    go true e = eq-eqb (placeOf w l) (placeOf x l) (ap (λ (v : ℕ). placeOf v l) (eqb-true w x e)) ∙ sym e
-    go false e = ne-eqb (placeOf w l) (placeOf x l) (λ q. eqb-false w x e (place-same x w l h q)) ∙ sym e
-
 map-snoc : {A B : Type 0} (f : A → B) (xs : List A) (x : A) → map f (xs ++ (x ∷ [])) ≡ map f xs ++ (f x ∷ [])
 map-snoc f [] x = refl
 map-snoc {B = B} f (y ∷ xs) x = ap (λ (r : List B). f y ∷ r) (map-snoc f xs x)
@@ -67,12 +53,7 @@ pub record Marked (key : List ℕ) (n m : ℕ) (seen : List Bool) (a : ℕ) : Ty
 module _ (key : List ℕ) (n : ℕ) where
   -- what fails for some names fails for more
   names-not : (xs ys : List ℕ) → allActiveIn key n xs ≡ false → allActiveIn key n (xs ++ ys) ≡ false
-  names-not xs ys e = rw (all-append (activeIn key n) xs ys) (go (all (activeIn key n) xs) (all (activeIn key n) ys) (allDistinct (xs ++ ys)) e (distinct-append-not xs ys))
-    where
-      go : (b c d : Bool) → (b && allDistinct xs) ≡ false → (allDistinct xs ≡ false → d ≡ false) → ((b && c) && d) ≡ false
-      go false c d q f = refl
-      go true false d q f = refl
-      go true true d q f = f q
+  names-not xs ys e = rw (all-append (activeIn key n) xs ys, e)
 
   -- a marked channel has the name of none before it
   first-named : (i : ℕ) (ws : List ℕ) → n ≤ length key → i < n → elem i (map (placeIn key n) ws) ≡ true → elem (getD key i 0) (take i key) ≡ false
@@ -90,10 +71,8 @@ module _ (key : List ℕ) (n : ℕ) where
       go false q f r = r f
 
   -- one name more
-  names-more : (xs : List ℕ) (a : ℕ) → a < length xs → allActiveIn key n (take a xs) ≡ true → allActiveIn key n (take (a + 1) xs) ≡ (activeIn key n (getD xs a 0) && not (elem (getD xs a 0) (take a xs)))
-  names-more xs a h e =
-      let p = both (all (activeIn key n) (take a xs)) (allDistinct (take a xs)) e in
-      rw (add-one, take-suc xs a 0 h, all-append, distinct-snoc, p .0, p .1, and-true)
+  names-more : (xs : List ℕ) (a : ℕ) → a < length xs → allActiveIn key n (take a xs) ≡ true → allActiveIn key n (take (a + 1) xs) ≡ activeIn key n (getD xs a 0)
+  names-more xs a h e = rw (add-one, take-suc xs a 0 h, all-append, e, and-true)
 
   -- and that one fails
   names-stop : (xs : List ℕ) (a m : ℕ) → a < m → allActiveIn key n (take (a + 1) xs) ≡ false → allActiveIn key n (take m xs) ≡ false
@@ -132,7 +111,7 @@ module _ (key : List ℕ) (n m : ℕ) (seen : List Bool) (a : ℕ) (inv : Marked
     names-long : length (take n key) ≡ n
     names-long = length-take-le n key (omega (arith, inv .long, inv .few))
 
-    more : allActiveIn key n (take (a + 1) (drop 76 key)) ≡ (activeIn key n (getD key (76 + a) 0) && not (elem (getD key (76 + a) 0) (take a (drop 76 key))))
+    more : allActiveIn key n (take (a + 1) (drop 76 key)) ≡ activeIn key n (getD key (76 + a) 0)
     more = rw next at (names-more key n (drop 76 key) a here (inv .named))
 
     stop : allActiveIn key n (take (a + 1) (drop 76 key)) ≡ false → false ≡ allActiveIn key n (slice 76 (76 + m) key)
@@ -146,25 +125,13 @@ module _ (key : List ℕ) (n m : ℕ) (seen : List Bool) (a : ℕ) (inv : Marked
       pub mark-below : p < n
       mark-below = omega (arith, e, q, names-long, place-most (getD key (76 + a) 0) (take n key))
 
-      -- the channel is marked where its name is one of those before
-      marked : getD seen p false ≡ elem (getD key (76 + a) 0) (take a (drop 76 key))
-      marked =
-          inv .marks p mark-below
-          ∙ ap (λ (i : ℕ). elem i (map (placeIn key n) (take a (drop 76 key)))) e
-          ∙ elem-places (getD key (76 + a) 0) (take n key) (omega (arith, e, mark-below, names-long)) (take a (drop 76 key))
+      tests : allActiveIn key n (take (a + 1) (drop 76 key)) ≡ eqb (getD key (24 + p) 0) 1
+      tests = more ∙ rw (← e, lt-ltb p n mark-below)
 
-      tests : allActiveIn key n (take (a + 1) (drop 76 key)) ≡ (eqb (getD key (24 + p) 0) 1 && not (getD seen p false))
-      tests = more ∙ rw (← e, lt-ltb p n mark-below, ← marked)
+      pub mark-not : (getD key (24 + p) 0 ≡ 1 → ⊥) → false ≡ allActiveIn key n (slice 76 (76 + m) key)
+      mark-not t = stop (tests ∙ ne-eqb (getD key (24 + p) 0) 1 t)
 
-      neither : (b c : Bool) → (not b || c) ≡ not (b && not c)
-      neither true true = refl
-      neither true false = refl
-      neither false c = refl
-
-      pub mark-not : (not (eqb (getD key (24 + p) 0) 1) || getD seen p false) ≡ true → false ≡ allActiveIn key n (slice 76 (76 + m) key)
-      mark-not t = stop (tests ∙ not-true _ (sym (neither (eqb (getD key (24 + p) 0) 1) (getD seen p false)) ∙ t))
-
-      pub mark-more : (not (eqb (getD key (24 + p) 0) 1) || getD seen p false) ≡ false → Marked key n m (set seen p true) (a + 1)
+      pub mark-more : getD key (24 + p) 0 ≡ 1 → Marked key n m (set seen p true) (a + 1)
       mark-more t =
           let names = drop 76 key in
           record {
@@ -173,7 +140,7 @@ module _ (key : List ℕ) (n m : ℕ) (seen : List Bool) (a : ℕ) (inv : Marked
             few = inv .few;
             fewNames = inv .fewNames;
             room = length-set seen p true ∙ inv .room;
-            named = tests ∙ not-false _ (sym (neither (eqb (getD key (24 + p) 0) 1) (getD seen p false)) ∙ t);
+            named = tests ∙ eq-eqb (getD key (24 + p) 0) 1 t;
             marks = λ i k. rw (add-one, take-suc names a 0 here, map-snoc, elem-append, next, ← e) (mark i (eqb p i) refl (inv .marks i k));
           }
         where

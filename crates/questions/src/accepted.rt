@@ -62,7 +62,7 @@ fn all_ordered(key: &[u64], places: &[f64], depth: usize, rows: usize) -> bool
         & runs_ordered(places, 28, key, 52, rows)
 }
 
-// Whether each of the m anchors names an active channel of the first n, none named twice; the named channels are marked.
+// Whether each of the m anchors names an active channel of the first n; the named channels are marked.
 // Where the answer is true, no marked channel has the name of one before it.
 fn mark_places(index: &[u8; 167], key: &[u64], n: usize, m: usize, seen: &mut [bool]) -> bool
     requires { ⌜ (length (now key) ≡ 156) × (n ≤ 24) × (m ≤ 24) × (now seen ≡ replicate 24 false) × IndexOf (now key) n (now index) ⌝ }
@@ -76,7 +76,7 @@ fn mark_places(index: &[u8; 167], key: &[u64], n: usize, m: usize, seen: &mut [b
         if p == n {
             return false;
         }
-        if (key[24 + p] != 1) | seen[p] {
+        if key[24 + p] != 1 {
             return false;
         }
         seen[p] = true;
@@ -103,7 +103,7 @@ fn rest_distinct(key: &[u64], n: usize, seen: &[bool]) -> bool
     true
 }
 
-// Whether each of the m anchors names an active channel of the first n, none named twice, and no two channels have one name.
+// Whether each of the m anchors names an active channel of the first n, and no two channels have one name.
 fn all_named(key: &[u64], n: usize, m: usize) -> bool
     requires { ⌜ (length (now key) ≡ 156) × (n ≤ 24) × (m ≤ 24) ⌝ }
     ensures { λ r. ⌜ r ≡ (allActiveIn (now (key .entry)) n (slice 76 (76 + m) (now (key .entry))) && allDistinct (take n (now (key .entry)))) ⌝ }

@@ -8,7 +8,7 @@ use lib.Dec.{T, leb, le→leb}
 use lib.ListN.{length, take, drop, length-map, length-append, length-drop, length-take}
 use lib.Seq.{take-append-seam, take-append-le}
 use mir.Facts.{and-yes, yes-and}
-use Rattle.lists.specs.Lists.{all, elem, allDistinct, filter, total, chunks}
+use Rattle.lists.specs.Lists.{all, elem, filter, total, chunks}
 use Rattle.lists.proofs.Filter.{filter-length}
 use Rattle.lists.proofs.Takes.{map-take}
 use Rattle.layout.specs.declared.Layout.{Layout}
@@ -23,7 +23,7 @@ use Rattle.layout.proofs.QuestionsFirst.{first-none}
 use Rattle.layout.proofs.Sizes.{Sized}
 use Rattle.selection.specs.Select.{picked, countSet, isPositive, recountedRows, countedRow, countedLayer, padded, keptTopology, keptLayout, keptLayers, anchorCounts}
 use Rattle.selection.proofs.Flat.{kept-arrays, used-counts}
-use Rattle.selection.proofs.Sublists.{map-picked, all-picked, distinct-picked}
+use Rattle.selection.proofs.Sublists.{map-picked, all-picked}
 use Rattle.selection.proofs.KeptOrder.{kept-zs, kept-layers}
 use Rattle.selection.proofs.KeptAnchors.{kept-anchors}
 use Rattle.selection.proofs.KeptCounts.{rows-counts, layers-counts, count-most, parts-long, parts-total, positive-sum, positive-length, positive-all, parts-within, all-take, total-take, picked-most}
@@ -136,9 +136,9 @@ module _ (l : Layout) (kept : List Bool) (rows : length (l .rows) ≡ 24) (ancho
     yes-6 =
         let names = map anchorName (usedAnchors l) in
         let named : ℕ → Bool = λ n. elem n (activeNames l) in
-        let h = and-yes (all named names) (allDistinct names) (holds _ (all-yes l e .5)) in
+        let h : T (all named names) = holds _ (all-yes l e .5) in
         let m : map anchorName (usedAnchors (keptLayout kept l)) ≡ picked kept names = ap (map anchorName) (kept-anchors l kept one-each) ∙ map-picked anchorName kept (usedAnchors l) in
-        yes _ (rw m (yes-and (all named (picked kept names)) (allDistinct (picked kept names)) (all-picked named kept names (h .0)) (distinct-picked kept names (h .1))))
+        yes _ (rw m (all-picked named kept names h))
 
     pub kept-yes : firstNo (layoutQuestions (keptLayout kept l)) ≡ 0
     kept-yes = sym (first-none (keptLayout kept l) yes-1 yes-2 yes-3 yes-4 yes-5 yes-6)

@@ -1,11 +1,10 @@
 -- What holds of a list holds of those that are picked from it.
-use Prim.Native.Nat.{ℕ}
 use mathlib.Core.Path.{_≡_, refl, ap}
-use mathlib.Core.Bool.{Bool, true, false, not, cond, _||_}
+use mathlib.Core.Bool.{Bool, true, false, cond}
 use mathlib.Core.List.{List, [], _∷_, map}
-use lib.Dec.{T, eqb}
+use lib.Dec.{T}
 use mir.Facts.{and-yes, yes-and}
-use Rattle.lists.specs.Lists.{all, elem, allDistinct, filter, chain, chainFrom}
+use Rattle.lists.specs.Lists.{all, filter, chain, chainFrom}
 use Rattle.selection.specs.Select.{picked}
 
 -- those that pass a test are picked by it
@@ -47,26 +46,3 @@ module _ {A : Type 0} (r : A → A → Bool) (trans : (x y z : A) → T (r x y) 
   chain-picked (b ∷ bs) [] h = tt
   chain-picked (true ∷ bs) (x ∷ xs) h = chain-from x bs xs h
   chain-picked (false ∷ bs) (x ∷ xs) h = chain-picked bs xs (chain-tail x xs h)
-
--- no two are equal
-nor : (a b : Bool) → T (not (a || b)) → T (not a) × T (not b)
-nor true b h = absurd h
-nor false b h = (tt, h)
-
-from-nor : (a b : Bool) → T (not a) → T (not b) → T (not (a || b))
-from-nor true b h k = h
-from-nor false b h k = k
-
-elem-picked : (n : ℕ) (bs : List Bool) (xs : List ℕ) → T (not (elem n xs)) → T (not (elem n (picked bs xs)))
-elem-picked n [] xs h = tt
-elem-picked n (b ∷ bs) [] h = tt
-elem-picked n (true ∷ bs) (x ∷ xs) h = let e = nor (eqb x n) (elem n xs) h in from-nor (eqb x n) (elem n (picked bs xs)) (e .0) (elem-picked n bs xs (e .1))
-elem-picked n (false ∷ bs) (x ∷ xs) h = elem-picked n bs xs (nor (eqb x n) (elem n xs) h .1)
-
-pub distinct-picked : (bs : List Bool) (xs : List ℕ) → T (allDistinct xs) → T (allDistinct (picked bs xs))
-distinct-picked [] xs h = tt
-distinct-picked (b ∷ bs) [] h = tt
-distinct-picked (true ∷ bs) (x ∷ xs) h =
-    let e = and-yes (not (elem x xs)) (allDistinct xs) h in
-    yes-and (not (elem x (picked bs xs))) (allDistinct (picked bs xs)) (elem-picked x bs xs (e .0)) (distinct-picked bs xs (e .1))
-distinct-picked (false ∷ bs) (x ∷ xs) h = distinct-picked bs xs (and-yes (not (elem x xs)) (allDistinct xs) h .1)

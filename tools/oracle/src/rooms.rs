@@ -1,4 +1,4 @@
-//! Rooms: the real ones, and random ones of any size.
+//! Rooms: the real ones, old ones in which a channel has several anchors, and random ones of any size.
 use crate::{
     random::Random, SpatialLayout, SpatialLayoutAnchor, SpatialLayoutChannel, SpatialLayoutLayer, SpatialLayoutRow,
 };
@@ -98,6 +98,85 @@ pub fn real() -> Vec<SpatialLayout> {
     plans.into_iter().map(room).collect()
 }
 
+/// An array of surrounds on both sides.
+const ARRAYS: Rows = &[
+    FRONT,
+    (0.25, &[("Ls", 0.0), ("Rs", 1.0)]),
+    (0.5, &[("Ls", 0.0), ("Rs", 1.0)]),
+    (0.75, &[("Ls", 0.0), ("Rs", 1.0)]),
+    (1.0, &[("Ls", 0.0), ("Ls", 0.3), ("Rs", 0.7), ("Rs", 1.0)]),
+];
+/// A rectangle of nodes, each of them some channel's.
+const GRID: Rows = &[
+    (0.0, &[("FL", 0.0), ("FC", 0.5), ("FR", 1.0)]),
+    (0.5, &[("FL", 0.0), ("FC", 0.5), ("FR", 1.0)]),
+    (1.0, &[("Ls", 0.0), ("FC", 0.5), ("Rs", 1.0)]),
+];
+
+/// Old rooms: twins side by side in a row, twins with another between them, arrays over rows,
+/// 7.1 with twins of a layer in the other, 22.2 with twins in three, and a rectangle of nodes.
+fn old_plans() -> Vec<SpatialLayout> {
+    let plans: [Plan; 6] = [
+        ("FL FR", &[(0.0, &[(0.0, &[("FL", 0.0), ("FL", 0.4), ("FR", 0.6), ("FR", 1.0)])])]),
+        ("FC FL FR:off", &[(0.0, &[(-0.0, &[("FL", -1.0), ("FC", -0.0), ("FL", 0.75)])])]),
+        ("FL FR FC LFE:lfe Ls Rs", &[(0.0, ARRAYS)]),
+        (
+            "FL FR FC LFE:lfe Ls Rs Lb Rb",
+            &[(0.0, BED7), (1.0, &[(0.25, &[("FL", 0.25), ("FR", 0.75)]), (0.75, &[("Lb", 0.25), ("Ls", 0.5), ("Rb", 0.75)])])],
+        ),
+        (
+            "FL FR FC LFE1:lfe BL BR FLc FRc BC LFE2:lfe SiL SiR TpC BtFC",
+            &[
+                (-1.0, &[(0.0, &[("FL", 0.0), ("BtFC", 0.5), ("FR", 1.0)])]),
+                (
+                    0.0,
+                    &[
+                        (0.0, &[("FL", 0.0), ("FLc", 0.25), ("FC", 0.5), ("FRc", 0.75), ("FR", 1.0)]),
+                        (0.5, &[("SiL", 0.0), ("SiR", 1.0)]),
+                        (1.0, &[("BL", 0.0), ("BC", 0.5), ("BR", 1.0)]),
+                    ],
+                ),
+                (
+                    1.0,
+                    &[
+                        (0.0, &[("FL", 0.0), ("FC", 0.5), ("FR", 1.0)]),
+                        (0.5, &[("SiL", 0.0), ("TpC", 0.5), ("SiR", 1.0)]),
+                        (1.0, &[("TpC", 0.25), ("TpC", 0.5), ("TpC", 0.75)]),
+                    ],
+                ),
+            ],
+        ),
+        ("Ls FC FR FL Rs", &[(0.0, GRID), (1.0, GRID)]),
+    ];
+    plans.into_iter().map(room).collect()
+}
+
+/// Every anchor on one channel, with another channel that has none before it and one behind it: the
+/// counts of each layer's rows.
+fn on_one(name: &str, layers: &[&[usize]]) -> SpatialLayout {
+    let steps = |count: usize| (0..count).map(move |i| if count == 1 { 0.5 } else { i as f64 / (count - 1) as f64 });
+    let row = |(y, &count): (f64, &usize)| SpatialLayoutRow {
+        y,
+        anchors: steps(count).map(|x| SpatialLayoutAnchor::at(name.to_owned(), x)).collect(),
+    };
+    let layer = |(z, rows): (usize, &&[usize])| SpatialLayoutLayer {
+        z: z as f64 / 4.0,
+        rows: steps(rows.len()).zip(rows.iter()).map(row).collect(),
+    };
+    let channel = |name: &str| SpatialLayoutChannel { identity: name.to_owned(), enabled: true, lfe: false };
+    SpatialLayout::of(vec![channel("FR"), channel(name), channel("Rs")], layers.iter().enumerate().map(layer).collect())
+}
+
+/// Rooms in which a channel has several anchors, up to all 24 on one.
+pub fn old() -> Vec<SpatialLayout> {
+    let mut list = old_plans();
+    list.push(on_one("FC", &[&[24]]));
+    list.push(on_one("Ls", &[&[4, 4, 4], &[4, 4, 4]]));
+    list.push(on_one("BC", &[&[1; 6], &[1; 6], &[1; 6], &[1; 6]]));
+    list.push(on_one("TpC", &[&[2, 3, 2], &[10], &[7]]));
+    list
+}
+
 const NAMES: [&str; 40] = [
     "FL", "FR", "FC", "Ls", "Rs", "Lb", "Rb", "BL", "BR", "BC", "SiL", "SiR", "Lw", "Rw", "FLc", "FRc", "TpFL", "TpFR",
     "TpFC", "TpC", "TpBL", "TpBR", "TpBC", "TpSiL", "TpSiR", "BtFC", "BtFL", "BtFR", "a", "b", "c", "d", "e", "f", "g",
@@ -125,7 +204,7 @@ fn ascending(random: &mut Random, count: usize) -> Vec<f64> {
     }
 }
 
-/// A room that questions 1 to 6 accept, with at most `most` channels.
+/// A room that questions 1 to 6 accept, with at most `most` channels, each with one anchor or none.
 pub fn random(random: &mut Random, most: u64) -> SpatialLayout {
     let count = 1 + random.below(most) as usize;
     let mut names: Vec<&str> = NAMES.to_vec();
@@ -176,4 +255,47 @@ pub fn random(random: &mut Random, most: u64) -> SpatialLayout {
         }
     }
     SpatialLayout::of(channels, layers)
+}
+
+/// A room that questions 1 to 6 accept, with at most `most` channels, in which channels that have an
+/// anchor get others: in its row, in another one, in a new row or in a new layer, up to 24 anchors.
+pub fn twinned(random: &mut Random, most: u64) -> SpatialLayout {
+    let SpatialLayout { channels, topology, .. } = self::random(random, most);
+    let mut layers = topology.layers;
+    let mut names: Vec<String> = layers.iter().flat_map(|l| &l.rows).flat_map(|r| &r.anchors).map(|a| a.identity.clone()).collect();
+    let anchored = names.len() as u64;
+    // now and then all on one channel
+    if random.below(4) == 0 {
+        names.truncate(1);
+    }
+    for _ in anchored..24.min(anchored + 1 + random.below(24)) {
+        let (x, y, z) = (free_place(random), free_place(random), free_place(random));
+        let name = names[random.below(names.len() as u64) as usize].clone();
+        let anchor = SpatialLayoutAnchor::at(name, x);
+        if layers.len() < 4 && random.below(8) == 0 {
+            layers.push(SpatialLayoutLayer { z, rows: vec![SpatialLayoutRow { y, anchors: vec![anchor] }] });
+        } else {
+            let count = layers.len() as u64;
+            let rows = &mut layers[random.below(count) as usize].rows;
+            if rows.len() < 6 && random.below(4) == 0 {
+                rows.push(SpatialLayoutRow { y, anchors: vec![anchor] });
+            } else {
+                let count = rows.len() as u64;
+                rows[random.below(count) as usize].anchors.push(anchor);
+            }
+        }
+    }
+    layers.sort_by(|a, b| a.z.total_cmp(&b.z));
+    for layer in &mut layers {
+        layer.rows.sort_by(|a, b| a.y.total_cmp(&b.y));
+        for row in &mut layer.rows {
+            row.anchors.sort_by(|a, b| a.x.total_cmp(&b.x));
+        }
+    }
+    SpatialLayout::of(channels, layers)
+}
+
+/// A coordinate that no other is likely to have.
+fn free_place(random: &mut Random) -> f64 {
+    2.0 * random.unit() - 1.0
 }

@@ -147,7 +147,8 @@ pub struct SpatialLayout {
 }
 
 impl SpatialLayout {
-    /// A layout of three dimensions without routes and aliases.
+    /// A layout of three dimensions without routes and aliases, in which a channel may have several
+    /// anchors.
     pub fn of(channels: Vec<SpatialLayoutChannel>, mut layers: Vec<SpatialLayoutLayer>) -> Self {
         for layer in &mut layers {
             for row in &mut layer.rows {
@@ -164,7 +165,7 @@ impl SpatialLayout {
             coordinate_dimension: 3,
             route_vectors: Vec::new(),
             named_fallback_parameters: [0; 24],
-            allow_legacy_duplicate_anchors: false,
+            allow_legacy_duplicate_anchors: true,
             use_actual_two_layer_heights: false,
         }
     }

@@ -140,18 +140,9 @@ fn point(random: &mut Random) -> f64 {
     }
 }
 
-fn main() {
-    let folder = env::args().nth(1).expect("the folder to write to");
-    let mut s = Script { inputs: String::new(), answers: String::new(), store: vec![0.0; STORE] };
-    let mut random = Random(11);
-    // no layout, no such place
-    s.put(920, 0);
-    s.answers.push_str("0\n");
-    let mut list = rooms::real();
-    for i in 0..56 {
-        list.push(rooms::random(&mut random, [4, 8, 12, 24][i % 4]));
-    }
-    s.spread(-7.25);
+/// Fills the eight places in turn; of each room the hashes of its tables, of the place and, now and
+/// then, of the store; all numbers of two centres and radii for the first `whole` rooms.
+fn tables(s: &mut Script, random: &mut Random, list: &[SpatialLayout], whole: usize) {
     for (i, l) in list.iter().enumerate() {
         s.layout(l);
         if i == 3 {
@@ -166,8 +157,7 @@ fn main() {
         if i % 8 == 7 {
             s.part(0, STORE);
         }
-        // all numbers of two centres and radii, for some rooms
-        if i < 9 {
+        if i < whole {
             let n = l.channels.iter().filter(|c| c.enabled && !c.lfe).count();
             for knot in [17 * 20 + 3, random.below(700) as usize] {
                 for k in 0..n {
@@ -179,17 +169,20 @@ fn main() {
         }
     }
     s.part(0, STORE);
-    // projections over built fields
+}
+
+/// Projections over the rooms' fields, `count` for each.
+fn projections(s: &mut Script, random: &mut Random, list: &[SpatialLayout], count: usize) {
     for (i, l) in list.iter().enumerate() {
         s.layout(l);
         let p = i % 8;
         s.fill(p, l);
         let mut field = open::Field::build(l);
         let n = l.channels.iter().filter(|c| c.enabled && !c.lfe).count();
-        for _ in 0..40 {
-            let points: Vec<f64> = (0..n).map(|_| point(&mut random)).collect();
-            let centre = [coordinate(&mut random), coordinate(&mut random), coordinate(&mut random)];
-            s.project(p, l, &field, extent(&mut random), centre, &points);
+        for _ in 0..count {
+            let points: Vec<f64> = (0..n).map(|_| point(random)).collect();
+            let centre = [coordinate(random), coordinate(random), coordinate(random)];
+            s.project(p, l, &field, extent(random), centre, &points);
         }
         // sums that overflow or vanish: chosen numbers in the table of X
         if i % 6 == 0 {
@@ -205,17 +198,41 @@ fn main() {
                         s.put(939, value.to_bits());
                     }
                 }
-                let points: Vec<f64> = (0..n).map(|_| point(&mut random)).collect();
+                let points: Vec<f64> = (0..n).map(|_| point(random)).collect();
                 s.project(p, l, &field, [0.45, 0.45, 0.45], [0.2, 0.5, 0.4], &points);
             }
         }
     }
+}
+
+fn main() {
+    let folder = env::args().nth(1).expect("the folder to write to");
+    let mut s = Script { inputs: String::new(), answers: String::new(), store: vec![0.0; STORE] };
+    let mut random = Random(11);
+    // no layout, no such place
+    s.put(920, 0);
+    s.answers.push_str("0\n");
+    let mut list = rooms::real();
+    for i in 0..56 {
+        list.push(rooms::random(&mut random, [4, 8, 12, 24][i % 4]));
+    }
+    s.spread(-7.25);
+    tables(&mut s, &mut random, &list, 9);
+    projections(&mut s, &mut random, &list, 40);
     for e in [[f64::NAN, 0.0, 0.0], [0.0, 1.5, 0.0], [0.0, 0.0, -0.1], [f64::INFINITY, 0.0, 0.0]] {
         let l = &list[0];
         let field = open::Field::build(l);
         s.layout(l);
         s.project(0, l, &field, e, [0.5; 3], &[1.0]);
     }
+    // rooms with twins
+    let mut twins = rooms::old();
+    for i in 0..14 {
+        twins.push(rooms::twinned(&mut random, [4, 8, 12, 20][i % 4]));
+    }
+    s.spread(0.75);
+    tables(&mut s, &mut random, &twins, 10);
+    projections(&mut s, &mut random, &twins, 8);
     fs::write(Path::new(&folder).join("stdin"), s.inputs).unwrap();
     fs::write(Path::new(&folder).join("stdout"), s.answers).unwrap();
 }

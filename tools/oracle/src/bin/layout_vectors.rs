@@ -1,6 +1,6 @@
 //! Writes the inputs and the answers that crates/layout_vectors replays: `layout_vectors FOLDER`.
 //! The original has no counterpart of questions 1 to 6, so the answers are written from document 01.
-use oracle::random::Random;
+use oracle::{random::Random, rooms, SpatialLayout};
 use std::{collections::BTreeMap, env, fmt::Write, fs, path::Path};
 
 fn packed(name: &str) -> u64 {
@@ -83,7 +83,7 @@ impl Fields {
             return 5;
         }
         let named: Vec<u64> = anchors.iter().map(|a| a.0).collect();
-        if !named.iter().all(|n| active.contains(n)) || !distinct(&named) {
+        if !named.iter().all(|n| active.contains(n)) {
             return 6;
         }
         0
@@ -134,6 +134,32 @@ fn fields(room: Room) -> Fields {
             for (name, x) in anchors.iter() {
                 f.0[106 + 2 * a] = packed(name);
                 f.0[107 + 2 * a] = x.to_bits();
+                a += 1;
+            }
+        }
+    }
+    f
+}
+
+fn fields_of(l: &SpatialLayout) -> Fields {
+    let mut f = Fields([0; 154]);
+    f.0[0] = l.channels.len() as u64;
+    f.0[1] = l.topology.layers.len() as u64;
+    for (i, c) in l.channels.iter().enumerate() {
+        f.0[2 + 2 * i] = packed(&c.identity);
+        f.0[3 + 2 * i] = u64::from(c.enabled) + 2 * u64::from(c.lfe);
+    }
+    let (mut r, mut a) = (0, 0);
+    for (i, layer) in l.topology.layers.iter().enumerate() {
+        f.0[50 + 2 * i] = layer.z.to_bits();
+        f.0[51 + 2 * i] = layer.rows.len() as u64;
+        for row in &layer.rows {
+            f.0[58 + 2 * r] = row.y.to_bits();
+            f.0[59 + 2 * r] = row.anchors.len() as u64;
+            r += 1;
+            for anchor in &row.anchors {
+                f.0[106 + 2 * a] = packed(&anchor.identity);
+                f.0[107 + 2 * a] = anchor.x.to_bits();
                 a += 1;
             }
         }
@@ -447,6 +473,27 @@ fn pairs(s: &mut Script) {
     }
 }
 
+/// A room with twins: accepted; each anchor on an active channel, on one that is not, on none; each
+/// channel switched off, which all its anchors show; and an anchor more than there may be.
+fn twins(s: &mut Script, f: &Fields) {
+    s.take(f);
+    s.aside();
+    s.ask();
+    s.compare();
+    let (n, rows, anchors) = (f.used() as usize, f.rows().len(), f.anchors().len());
+    for i in 0..anchors {
+        for name in [f.channel(i % n).0, f.channel(n - 1).0, packed("none")] {
+            s.changed(&[(106 + 2 * i, name)]);
+        }
+    }
+    for i in 0..n {
+        for flags in [0, 3] {
+            s.changed(&[(3 + 2 * i, flags)]);
+        }
+    }
+    s.changed(&[(59 + 2 * (rows - 1), f.row(rows - 1).1 + 25 - anchors as u64)]);
+}
+
 fn main() {
     let folder = env::args().nth(1).expect("the folder to write to");
     let zero = Fields([0; 154]);
@@ -519,6 +566,13 @@ fn main() {
         s.take(&f);
         s.ask();
         s.compare();
+    }
+    for room in rooms::old() {
+        twins(&mut s, &fields_of(&room));
+    }
+    for round in 0..20 {
+        let room = rooms::twinned(&mut random, [4, 8, 12, 20][round % 4]);
+        twins(&mut s, &fields_of(&room));
     }
     eprintln!("answers by question: {:?}", s.refused);
     fs::write(Path::new(&folder).join("stdin"), s.inputs).unwrap();

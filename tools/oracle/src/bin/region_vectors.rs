@@ -153,6 +153,12 @@ fn main() {
     for round in 0..120 {
         s.room(&rooms::random(&mut random, [4, 8, 16, 24][round % 4]));
     }
+    for room in rooms::old() {
+        s.room(&room);
+    }
+    for round in 0..40 {
+        s.room(&rooms::twinned(&mut random, [4, 8, 12, 20][round % 4]));
+    }
     eprintln!("answers: {:?}", s.told);
     fs::write(Path::new(&folder).join("stdin"), s.inputs).unwrap();
     fs::write(Path::new(&folder).join("stdout"), s.answers).unwrap();

@@ -170,7 +170,7 @@ impl Room {
         {
             return Some(5);
         }
-        if !anchors.iter().all(|n| active.contains(n)) || !distinct(&anchors) {
+        if !anchors.iter().all(|n| active.contains(n)) {
             return Some(6);
         }
         None

@@ -1,6 +1,12 @@
-//! Writes random scene scripts: `scenes SEED COUNT FOLDER` makes COUNT files of about 60 calls each.
+//! Writes random scene scripts: `scenes SEED COUNT FOLDER` makes COUNT files of about 60 calls each and
+//! tells in how many of them a room has twins. `scenes twins` writes one script of such rooms alone,
+//! under all twelve zone states.
 use oracle::{random::Random, rooms, SpatialLayout};
-use std::{env, fs, path::Path};
+use std::{
+    env, fs,
+    io::{self, Write},
+    path::Path,
+};
 
 const STORE: u64 = 285312;
 
@@ -39,6 +45,11 @@ impl Draft {
     }
     fn anchors(&mut self) -> Vec<&mut (String, f64)> {
         self.rows().into_iter().flat_map(|r| &mut r.1).collect()
+    }
+    /// Whether a channel has several anchors.
+    fn has_twins(&self) -> bool {
+        let names: Vec<&String> = self.layers.iter().flat_map(|l| &l.1).flat_map(|r| &r.1).map(|a| &a.0).collect();
+        (0..names.len()).any(|i| names[..i].contains(&names[i]))
     }
     /// Every coordinate.
     fn numbers(&mut self) -> Vec<&mut f64> {
@@ -195,15 +206,21 @@ fn zones(random: &mut Random) -> String {
     format!("{}{top}", one_of(random, &ADMITTED))
 }
 
-/// A room: real, random, of classed names on one floor, or of one class only.
+/// A room: real, old, random with twins and without, of classed names on one floor, or of one class only.
 fn room(random: &mut Random) -> Draft {
-    let mut draft = match random.below(5) {
+    let mut draft = match random.below(8) {
         0 | 1 => {
             let list = rooms::real();
             Draft::of(&list[random.below(list.len() as u64) as usize])
         }
         2 => Draft::of(&rooms::random(random, 6)),
         3 => Draft::of(&rooms::random(random, 24)),
+        4 => {
+            let list = rooms::old();
+            Draft::of(&list[random.below(list.len() as u64) as usize])
+        }
+        5 => Draft::of(&rooms::twinned(random, 6)),
+        6 => Draft::of(&rooms::twinned(random, 20)),
         _ => {
             let mut names = NAMES.to_vec();
             let count = 1 + random.below(8) as usize;
@@ -363,7 +380,8 @@ fn spoil(random: &mut Random, call: &mut Call, q: u64) {
             };
         }
         6 => {
-            let names: Vec<String> = draft.channels.iter().map(|c| c.name.clone()).collect();
+            let silent: Vec<String> =
+                draft.channels.iter().filter(|c| !c.enabled || c.lfe).map(|c| c.name.clone()).collect();
             let mut list = draft.anchors();
             if list.is_empty() {
                 return;
@@ -373,7 +391,7 @@ fn spoil(random: &mut Random, call: &mut Call, q: u64) {
                 0 => list[k].0 = "none".to_owned(),
                 1 => list[k].0 = packed("\u{1}"),
                 _ => {
-                    list[k].0 = names.get(random.below(1 + names.len() as u64) as usize).cloned().unwrap_or("x".to_owned());
+                    list[k].0 = silent.get(random.below(1 + silent.len() as u64) as usize).cloned().unwrap_or("x".to_owned());
                 }
             }
         }
@@ -481,6 +499,8 @@ struct Script {
     text: Vec<u8>,
     random: Random,
     now: Option<Call>,
+    /// Whether a call that is meant to be accepted has brought a room with twins.
+    twins: bool,
 }
 
 impl Script {
@@ -603,8 +623,9 @@ impl Script {
     }
 }
 
-fn script(seed: u64) -> Vec<u8> {
-    let mut s = Script { text: Vec::new(), random: Random(seed), now: None };
+/// A script, and whether it has a room with twins.
+fn script(seed: u64) -> (Vec<u8>, bool) {
+    let mut s = Script { text: Vec::new(), random: Random(seed), now: None, twins: false };
     // what is there at the start
     for word in ["gains", "show", "row 0.5", "anchor FL 0.5", "layer 0", "anchor FL 0.5"] {
         if s.random.below(8) == 0 {
@@ -714,6 +735,7 @@ fn script(seed: u64) -> Vec<u8> {
             s.call(&other);
         }
         s.call(&call);
+        s.twins |= call.draft.has_twins();
         if s.random.below(6) == 0 {
             s.line("show");
         }
@@ -723,18 +745,57 @@ fn script(seed: u64) -> Vec<u8> {
     if s.random.below(2) == 0 {
         s.text.extend(b"gains");
     }
+    (s.text, s.twins)
+}
+
+/// The old rooms and four random ones with twins, each under all twelve zone states, an extent of the
+/// blend and a wide one by turns.
+fn twins() -> Vec<u8> {
+    let mut s = Script { text: Vec::new(), random: Random(11), now: None, twins: true };
+    let mut list = rooms::old();
+    for most in [6, 12, 18, 24] {
+        list.push(rooms::twinned(&mut s.random, most));
+    }
+    s.line("fresh");
+    for (epoch, l) in list.iter().enumerate() {
+        let draft = Draft::of(l);
+        for (i, zones) in ADMITTED.iter().enumerate() {
+            for top in ["T", "F"] {
+                let points = (0..draft.active()).map(|_| point(&mut s.random)).collect();
+                let call = Call {
+                    draft: draft.clone(),
+                    epoch: epoch as u64,
+                    extent: [[0.05, 0.3, 0.8][i % 3]; 3],
+                    zones: format!("{zones}{top}"),
+                    centre: std::array::from_fn(|_| coordinate(&mut s.random)),
+                    points,
+                    slots: 24,
+                    store: STORE,
+                };
+                s.call(&call);
+            }
+        }
+        s.line("show");
+    }
     s.text
 }
 
 fn main() {
     let arguments: Vec<String> = env::args().collect();
+    if let [_, "twins"] = arguments.iter().map(String::as_str).collect::<Vec<_>>()[..] {
+        io::stdout().write_all(&twins()).unwrap();
+        return;
+    }
     let [_, seed, count, folder] = &arguments[..] else {
-        panic!("scenes SEED COUNT FOLDER");
+        panic!("scenes SEED COUNT FOLDER | scenes twins");
     };
     let (seed, count): (u64, u64) = (seed.parse().unwrap(), count.parse().unwrap());
+    let mut with_twins = 0;
     for i in 0..count {
         // seeds that lie apart, so that no two scripts share their numbers
-        let text = script(Random(seed << 32 | i).next());
+        let (text, twins) = script(Random(seed << 32 | i).next());
+        with_twins += u64::from(twins);
         fs::write(Path::new(folder).join(format!("{i:05}.scene")), text).unwrap();
     }
+    println!("{with_twins} of {count} scripts have a room with twins");
 }

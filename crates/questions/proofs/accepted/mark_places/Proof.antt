@@ -26,13 +26,13 @@ returns c =
 
 returns-2 : tie.Need-returns-2 Inv μ
 returns-2 c =
-    let b = c .before .before .before in
+    let b = c .before .before in
     let g = b .before .before .before .before in
     (mark-not _ _ _ _ _ (g .loop .inv) (omega arith) _ (b .before .place-by .ensures) (b .if1 .left) (c .if2 .taken), (λ z. absurd (false≢true z), g .loop .inv .room))
 
 again : tie.Need-loop-again Inv μ
 again c =
-    let b = c .before .before .before in
+    let b = c .before .before in
     let g = b .before .before .before .before in
     mark-more _ _ _ _ _ (g .loop .inv) (omega arith) _ (b .before .place-by .ensures) (b .if1 .left) (c .if2 .left)
 
@@ -67,10 +67,9 @@ mark-places-spec =
     (λ c. let z = below c in search needs)
     (λ c. let z = below c in search needs)
     (λ c. let z = below (c .before) in search needs)
-    (λ c. let z = below (c .before .before) in search needs)
-    (λ c. let g = c .before .before .before .before .before .before .before in long (g .before .before .before) (g .loop .seen) (g .loop .inv .room))
+    (λ c. let g = c .before .before .before .before .before .before in long (g .before .before .before) (g .loop .seen) (g .loop .inv .room))
     returns-2
-    (λ c. let z = below (c .before .before .before) in search needs)
+    (λ c. let z = below (c .before .before) in search needs)
     (λ c. search needs)
     (λ c. search needs)
     again

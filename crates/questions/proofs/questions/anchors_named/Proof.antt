@@ -44,10 +44,10 @@ active-few c =
 
 returns : tie.Need-returns
 returns c =
-    let a = c .before .before .before .before .before in
+    let a = c .before .before .before in
     let t = a .before .before in
     let l = t .before .before .before .args .l in
-    ap₂ _&&_ (c .before .before .all-among .ensures) (c .all-distinct .ensures)
+    c .all-among .ensures
     ∙ question6-is l _ _ _ _ (drop (activeCount l) (replicate 24 0)) (t .anchor-total .ensures) (a .active-names .ensures .0) (t .before .anchor-names .ensures) (a .active-names .ensures .1)
 
 pub anchors-named-spec : {M : Type 1} → statement M
@@ -60,6 +60,4 @@ anchors-named-spec =
     (λ c. sym (names-long (c .before .before .before .before)))
     (λ c. sym (active-long (c .before .before)))
     (λ c κs. let a = c .before .before in (anchors-few (a .before .before), active-few a))
-    (λ c. sym (names-long (c .before .before .before .before .before .before .before)))
-    (λ c κs. anchors-few (c .before .before .before .before .before .before))
     returns)
