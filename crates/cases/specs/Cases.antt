@@ -5,12 +5,19 @@ use mathlib.Core.List.{List, [], _∷_}
 use lib.Dec.{eqb}
 use lib.IntN.{pos, negsuc}
 use lib.Ieee.{Float, binary64, nan, fin, toBits, lt}
-use Rattle.doubles.specs.Arithmetic.{dec, whole, zero, one}
-use Rattle.approximations.specs.Circular.{H, L, cosineOf}
+use Rattle.doubles.specs.Arithmetic.{_⊕_, _⊗_, _⊘_, dec, whole, zero, one}
+use Rattle.approximations.specs.Circular.{H, L, sineOf, cosineOf}
 use Rattle.approximations.specs.Exp2.{exp2Of}
+use Rattle.layout.specs.declared.Anchor.{Anchor}
+use Rattle.layout.specs.declared.Layout.{Layout}
+use Rattle.layout.specs.Build.{emptyLayout, withChannel, withLayer, withRow, withAnchor}
+use Rattle.layout.specs.Topology.{topologyOf}
+use Rattle.layout.specs.Questions.{firstNo, layoutQuestions}
 use Rattle.extent.specs.declared.Extent.{Extent}
 use Rattle.extent.specs.Extent.{meanOf, meanRadius, radiusOf, readingOf, quantised}
 use Rattle.extent.specs.Kernel.{threshold, kernelOf}
+use Rattle.field.specs.Knots.{X, Y}
+use Rattle.field.specs.Responses.{responseOn}
 use Rattle.lists.specs.Lists.{bit}
 use Rattle.region.specs.declared.RegionHorizontalState.{RegionHorizontalState}
 use Rattle.region.specs.declared.RegionHorizontalState.the-variants.{NoConstraints, BackExcluded, SideExcluded, CentreAndBack, ScreenOnly, SurroundOnly}
@@ -82,9 +89,26 @@ F = false
 abbrev pub leftSurround : ℕ
 leftSurround = 76 + 256 * 115
 
--- Doubles and approximations; Extent; Zones and selection; and, without a star, the three least means and the kernel
+-- a room with one channel, C: two anchors in the first row, at both ends, and a third in the second
+abbrev pub centre : ℕ
+centre = 67
+
+abbrev pub at : Float → Anchor
+at x = record { name = centre; x = x }
+
+unfoldable pub twins : Layout
+unfolding withRow withAnchor
+twins =
+    let front = withRow (withLayer (withChannel emptyLayout (record { name = centre; enabled = true; lfe = false })) zero) zero in
+    withAnchor (withRow (withAnchor (withAnchor front (at zero)) (at one)) one) (at zero)
+
+-- PI × t / 2 for t = 1/8
+abbrev pub angle : Float
+angle = dec 3141592653589793 15 ⊗ dec 125 3 ⊘ whole (pos 2)
+
+-- Doubles and approximations; Extent; Zones and selection; and, without a star, the three least means, the kernel, and twin anchors, which are accepted and whose responses add up in topology order
 unfoldable pub cases : List Case
-unfolding exp2Of cosineOf readingOf quantised radiusOf kernelOf
+unfolding exp2Of sineOf cosineOf readingOf quantised radiusOf kernelOf twins layoutQuestions responseOn
 cases =
     doubles (exp2Of zero) one
     ∷ doubles (exp2Of (whole (negsuc 0))) (dec 5 1)
@@ -109,4 +133,7 @@ cases =
     ∷ numbers (bit (lt (meanRadius 3) threshold)) 0
     ∷ doubles (kernelOf (dec 5 1) (dec 5 1) (dec 1 1) false) one
     ∷ doubles (kernelOf (dec 5 1) (dec 5 1) (dec 24 6) false) zero
+    ∷ numbers (firstNo (layoutQuestions twins)) 0
+    ∷ doubles (responseOn X (topologyOf twins) (dec 125 3) centre) (cosineOf angle ⊕ sineOf angle ⊕ one)
+    ∷ doubles (responseOn Y (topologyOf twins) zero centre) (whole (pos 2))
     ∷ []

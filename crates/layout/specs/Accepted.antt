@@ -9,7 +9,7 @@ use Rattle.lists.specs.Lists.{all, elem, allDistinct, total}
 use Rattle.layout.specs.declared.Layout.{Layout}
 use Rattle.layout.specs.Name.{validName}
 use Rattle.layout.specs.Channels.{channelsOf, channelName, activeNames, activeCount}
-use Rattle.layout.specs.Topology.{topologyOf, usedLayers, usedRows, usedAnchors, anchorName, anchorX, rowY, rowCount, layerZ, layerCount, rowStarts, anchorStarts, noRow, noLayer, noAnchor}
+use Rattle.layout.specs.Topology.{topologyOf, usedLayers, usedRows, usedAnchors, anchorX, rowY, rowCount, layerZ, layerCount, rowStarts, anchorStarts, noRow, noLayer, noAnchor}
 use Rattle.layout.specs.Questions.{ordered, orderedLayer, topologyZ}
 
 pub record Accepted (l : Layout) : Type 0 where

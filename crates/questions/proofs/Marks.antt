@@ -1,7 +1,7 @@
 -- Laws for the loop that marks the channels that anchors name.
 use Prim.Native.Nat.{ℕ, suc, _+_, _≤_, _<_}
 use mathlib.Core.Path.{_≡_, refl, sym, ap, ap₂, _∙_}
-use mathlib.Core.Bool.{Bool, true, false, cond, _&&_, _||_, and-true, or-true, or-false, false≢true}
+use mathlib.Core.Bool.{Bool, true, false, cond, _||_, and-true, or-true, or-false, false≢true}
 use mathlib.Core.List.{List, [], _∷_, _++_, map}
 use native.Mathlib.Numerals.{add-one, one-add}
 use native.Mathlib.Omega.{arith}

@@ -1,6 +1,5 @@
 -- The names are those of the anchors and of the active channels.
-use mathlib.Core.Path.{_≡_, refl, sym, ap, ap₂, _∙_}
-use mathlib.Core.Bool.{_&&_}
+use mathlib.Core.Path.{_≡_, refl, sym, ap, _∙_}
 use mathlib.Core.List.{map}
 use Prim.Native.Nat.{_≤_}
 use native.Mathlib.Omega.{arith}
