@@ -89,13 +89,14 @@ F = false
 abbrev pub leftSurround : ℕ
 leftSurround = 76 + 256 * 115
 
--- a room with one channel, C: two anchors in the first row, at both ends, and a third in the second
+-- C, and an anchor of it
 abbrev pub centre : ℕ
 centre = 67
 
 abbrev pub at : Float → Anchor
 at x = record { name = centre; x = x }
 
+-- a room with that channel alone: two anchors in the first row, at both ends, and a third in the second
 unfoldable pub twins : Layout
 unfolding withRow withAnchor
 twins =

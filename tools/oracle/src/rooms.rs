@@ -262,7 +262,8 @@ pub fn random(random: &mut Random, most: u64) -> SpatialLayout {
 pub fn twinned(random: &mut Random, most: u64) -> SpatialLayout {
     let SpatialLayout { channels, topology, .. } = self::random(random, most);
     let mut layers = topology.layers;
-    let mut names: Vec<String> = layers.iter().flat_map(|l| &l.rows).flat_map(|r| &r.anchors).map(|a| a.identity.clone()).collect();
+    let anchors = layers.iter().flat_map(|l| &l.rows).flat_map(|r| &r.anchors);
+    let mut names: Vec<String> = anchors.map(|a| a.identity.clone()).collect();
     let anchored = names.len() as u64;
     // now and then all on one channel
     if random.below(4) == 0 {
