@@ -151,8 +151,7 @@ fn old_plans() -> Vec<SpatialLayout> {
     plans.into_iter().map(room).collect()
 }
 
-/// Every anchor on one channel, with another channel that has none before it and one behind it: the
-/// counts of each layer's rows.
+/// Every anchor on one channel, the second of three; `layers` has how many each row of each layer has.
 fn on_one(name: &str, layers: &[&[usize]]) -> SpatialLayout {
     let steps = |count: usize| (0..count).map(move |i| if count == 1 { 0.5 } else { i as f64 / (count - 1) as f64 });
     let row = |(y, &count): (f64, &usize)| SpatialLayoutRow {

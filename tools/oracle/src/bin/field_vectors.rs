@@ -140,8 +140,9 @@ fn point(random: &mut Random) -> f64 {
     }
 }
 
-/// Fills the eight places in turn; of each room the hashes of its tables, of the place and, now and
-/// then, of the store; all numbers of two centres and radii for the first `whole` rooms.
+/// Fills the eight places in turn, and once a ninth, which there is not; of each room the hashes of
+/// its tables, of the place and, now and then, of the store; all numbers of two centres and radii for
+/// the first `whole` rooms.
 fn tables(s: &mut Script, random: &mut Random, list: &[SpatialLayout], whole: usize) {
     for (i, l) in list.iter().enumerate() {
         s.layout(l);

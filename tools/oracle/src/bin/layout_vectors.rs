@@ -113,35 +113,7 @@ fn ordered(list: &[f64]) -> bool {
     list.iter().all(|x| x.is_finite() && (-1.0..=1.0).contains(x)) && list.windows(2).all(|w| w[0] < w[1])
 }
 
-type Room<'a> = (&'a [(&'a str, u64)], &'a [(f64, &'a [(f64, &'a [(&'a str, f64)])])]);
-
-fn fields(room: Room) -> Fields {
-    let mut f = Fields([0; 154]);
-    f.0[0] = room.0.len() as u64;
-    f.0[1] = room.1.len() as u64;
-    for (i, (name, flags)) in room.0.iter().enumerate() {
-        f.0[2 + 2 * i] = packed(name);
-        f.0[3 + 2 * i] = *flags;
-    }
-    let (mut r, mut a) = (0, 0);
-    for (i, (z, rows)) in room.1.iter().enumerate() {
-        f.0[50 + 2 * i] = z.to_bits();
-        f.0[51 + 2 * i] = rows.len() as u64;
-        for (y, anchors) in rows.iter() {
-            f.0[58 + 2 * r] = y.to_bits();
-            f.0[59 + 2 * r] = anchors.len() as u64;
-            r += 1;
-            for (name, x) in anchors.iter() {
-                f.0[106 + 2 * a] = packed(name);
-                f.0[107 + 2 * a] = x.to_bits();
-                a += 1;
-            }
-        }
-    }
-    f
-}
-
-fn fields_of(l: &SpatialLayout) -> Fields {
+fn fields(l: &SpatialLayout) -> Fields {
     let mut f = Fields([0; 154]);
     f.0[0] = l.channels.len() as u64;
     f.0[1] = l.topology.layers.len() as u64;
@@ -166,39 +138,6 @@ fn fields_of(l: &SpatialLayout) -> Fields {
     }
     f
 }
-
-const MONO: Room = (&[("C", 1)], &[(0.0, &[(0.0, &[("C", 0.0)])])]);
-const FIVE_ONE: Room = (
-    &[("FL", 1), ("FR", 1), ("FC", 1), ("LFE", 3), ("Ls", 1), ("Rs", 1)],
-    &[(0.0, &[(0.0, &[("FL", 0.0), ("FC", 0.5), ("FR", 1.0)]), (1.0, &[("Ls", 0.0), ("Rs", 1.0)])])],
-);
-const SEVEN_ONE_FOUR: Room = (
-    &[
-        ("FL", 1),
-        ("FR", 1),
-        ("FC", 1),
-        ("LFE", 3),
-        ("Ls", 1),
-        ("Rs", 1),
-        ("Lb", 1),
-        ("Rb", 1),
-        ("TpFL", 1),
-        ("TpFR", 1),
-        ("TpBL", 1),
-        ("TpBR", 1),
-    ],
-    &[
-        (
-            0.0,
-            &[
-                (0.0, &[("FL", 0.0), ("FC", 0.5), ("FR", 1.0)]),
-                (0.5, &[("Ls", 0.0), ("Rs", 1.0)]),
-                (1.0, &[("Lb", 0.0), ("Rb", 1.0)]),
-            ],
-        ),
-        (1.0, &[(0.25, &[("TpFL", 0.25), ("TpFR", 0.75)]), (0.75, &[("TpBL", 0.25), ("TpBR", 0.75)])]),
-    ],
-);
 
 /// 24 channels over four layers of six rows each, one anchor in each row.
 fn full() -> Fields {
@@ -507,8 +446,12 @@ fn main() {
     };
     s.ask();
     s.compare();
-    let rooms = [fields(MONO), fields(FIVE_ONE), fields(SEVEN_ONE_FOUR), full()];
-    for room in &rooms {
+    // mono at the left wall, 5.1, 7.1.4 and a full room
+    let real = rooms::real();
+    let mut mono = fields(&real[0]);
+    mono.0[107] = 0.0f64.to_bits();
+    let plain = [mono, fields(&real[2]), fields(&real[5]), full()];
+    for room in &plain {
         s.take(room);
         s.aside();
         s.ask();
@@ -552,7 +495,7 @@ fn main() {
     // random fields
     let mut random = Random(7);
     for round in 0..600 {
-        let mut f = rooms[round / 150].clone();
+        let mut f = plain[round / 150].clone();
         for _ in 0..1 + random.below(3) {
             let i = random.below(154) as usize;
             f.0[i] = match random.below(5) {
@@ -568,11 +511,11 @@ fn main() {
         s.compare();
     }
     for room in rooms::old() {
-        twins(&mut s, &fields_of(&room));
+        twins(&mut s, &fields(&room));
     }
     for round in 0..20 {
         let room = rooms::twinned(&mut random, [4, 8, 12, 20][round % 4]);
-        twins(&mut s, &fields_of(&room));
+        twins(&mut s, &fields(&room));
     }
     eprintln!("answers by question: {:?}", s.refused);
     fs::write(Path::new(&folder).join("stdin"), s.inputs).unwrap();

@@ -380,7 +380,7 @@ fn spoil(random: &mut Random, call: &mut Call, q: u64) {
             };
         }
         6 => {
-            let silent: Vec<String> =
+            let inactive: Vec<String> =
                 draft.channels.iter().filter(|c| !c.enabled || c.lfe).map(|c| c.name.clone()).collect();
             let mut list = draft.anchors();
             if list.is_empty() {
@@ -391,7 +391,8 @@ fn spoil(random: &mut Random, call: &mut Call, q: u64) {
                 0 => list[k].0 = "none".to_owned(),
                 1 => list[k].0 = packed("\u{1}"),
                 _ => {
-                    list[k].0 = silent.get(random.below(1 + silent.len() as u64) as usize).cloned().unwrap_or("x".to_owned());
+                    let i = random.below(1 + inactive.len() as u64) as usize;
+                    list[k].0 = inactive.get(i).cloned().unwrap_or("x".to_owned());
                 }
             }
         }
@@ -748,8 +749,8 @@ fn script(seed: u64) -> (Vec<u8>, bool) {
     (s.text, s.twins)
 }
 
-/// The old rooms and four random ones with twins, each under all twelve zone states, an extent of the
-/// blend and a wide one by turns.
+/// The old rooms and four random ones with twins, each under all twelve zone states, with an extent of
+/// the blend and two wider ones by turns.
 fn twins() -> Vec<u8> {
     let mut s = Script { text: Vec::new(), random: Random(11), now: None, twins: true };
     let mut list = rooms::old();

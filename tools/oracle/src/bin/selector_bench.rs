@@ -10,9 +10,17 @@ use std::{env, hint::black_box};
 
 fn main() {
     let program = env::args().nth(1).expect("the program selector_bench");
-    let real = rooms::real();
+    let (real, old) = (rooms::real(), rooms::old());
     println!("{:<44} {:>12} {:>12}   ratio", "", "Rattle", "Rust");
-    for (name, l) in [("n = 5 (5.1)", &real[2]), ("n = 11 (7.1.4)", &real[5]), ("n = 24", &full())] {
+    for (name, l) in [
+        ("n = 5 (5.1)", &real[2]),
+        ("n = 11 (7.1.4)", &real[5]),
+        ("n = 24", &full()),
+        // rooms with twins: surround arrays, a rectangle of nodes, 24 anchors on one channel
+        ("n = 5, 13 anchors", &old[2]),
+        ("n = 5, 18 anchors", &old[5]),
+        ("n = 3, 24 anchors", &old[6]),
+    ] {
         let n = l.channels.iter().filter(|c| c.enabled && !c.lfe).count();
         // NoConstraints with Include, and with Exclude where the bed has classes, else without the layers above
         for (state, zones) in [("default state", [true; 6]), ("constrained", [true, true, true, true, true, false])] {
