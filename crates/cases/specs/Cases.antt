@@ -4,7 +4,7 @@ use mathlib.Core.Bool.{Bool, true, false}
 use mathlib.Core.List.{List, [], _∷_}
 use lib.Dec.{eqb}
 use lib.IntN.{pos, negsuc}
-use lib.Ieee.{Float, binary64, nan, fin, toBits, lt}
+use lib.Ieee.{Float, binary64, nan, fin, neg, toBits, lt}
 use Rattle.doubles.specs.Arithmetic.{_⊕_, _⊗_, _⊘_, dec, whole, zero, one}
 use Rattle.approximations.specs.Circular.{H, L, sineOf, cosineOf}
 use Rattle.approximations.specs.Exp2.{exp2Of}
@@ -14,7 +14,9 @@ use Rattle.layout.specs.Build.{emptyLayout, withChannel, withLayer, withRow, wi
 use Rattle.layout.specs.Topology.{topologyOf}
 use Rattle.layout.specs.Questions.{firstNo, layoutQuestions}
 use Rattle.extent.specs.declared.Extent.{Extent}
-use Rattle.extent.specs.Extent.{meanOf, meanRadius, radiusOf, readingOf, quantised}
+use Rattle.extent.specs.declared.Reading.{Reading}
+use Rattle.extent.specs.declared.Reading.the-variants as reading
+use Rattle.extent.specs.Extent.{extentQuestions, meanOf, meanRadius, radiusOf, readOf, quantised}
 use Rattle.extent.specs.Kernel.{threshold, kernelOf}
 use Rattle.field.specs.Knots.{X, Y}
 use Rattle.field.specs.Responses.{responseOn}
@@ -53,6 +55,11 @@ tiny = fin false 1 (negsuc 15)
 
 abbrev pub belowTiny : Float
 belowTiny = fin false 9007199254740991 (negsuc 68)
+
+-- the question by which a reading is refused; 0 where it is not
+abbrev pub refusal : Reading → ℕ
+refusal (reading.Refused q) = q
+refusal (reading.Read mean radius) = 0
 
 -- what six flags say, as a number: no two answers have the same
 abbrev pub horizontalNumber : RegionHorizontalState → ℕ
@@ -107,9 +114,9 @@ twins =
 abbrev pub angle : Float
 angle = dec 3141592653589793 15 ⊗ dec 125 3 ⊘ whole (pos 2)
 
--- Doubles and approximations; Extent; Zones and selection; and, without a star, the three least means, the kernel, and twin anchors, which are accepted and whose responses add up in topology order
+-- Doubles and approximations; Extent; Zones and selection; and, without a star, the three least means, the kernel, the other components of an extent, and twin anchors, which are accepted and whose responses add up in topology order
 unfoldable pub cases : List Case
-unfolding exp2Of sineOf cosineOf readingOf quantised radiusOf kernelOf twins layoutQuestions responseOn
+unfolding exp2Of sineOf cosineOf extentQuestions quantised radiusOf kernelOf twins layoutQuestions responseOn
 cases =
     doubles (exp2Of zero) one
     ∷ doubles (exp2Of (whole (negsuc 0))) (dec 5 1)
@@ -122,7 +129,7 @@ cases =
     ∷ numbers (meanOf (extent tiny tiny tiny)) 1
     ∷ numbers (meanOf (extent belowTiny belowTiny belowTiny)) 1
     ∷ numbers (meanOf (extent tiny zero zero)) 0
-    ∷ numbers (readingOf (extent nan zero zero) .refusal) 7
+    ∷ numbers (refusal (readOf (extent nan zero zero))) 7
     ∷ zones (zonesOf (F ∷ F ∷ F ∷ F ∷ F ∷ T ∷ [])) (Refused 8)
     ∷ zones (zonesOf (T ∷ T ∷ T ∷ T ∷ T ∷ F ∷ [])) (State (record { horizontal = NoConstraints; top = Exclude }))
     ∷ beds (bedOf BackExcluded leftSurround true) Dropped
@@ -134,6 +141,11 @@ cases =
     ∷ numbers (bit (lt (meanRadius 3) threshold)) 0
     ∷ doubles (kernelOf (dec 5 1) (dec 5 1) (dec 1 1) false) one
     ∷ doubles (kernelOf (dec 5 1) (dec 5 1) (dec 24 6) false) zero
+    ∷ numbers (refusal (readOf (extent zero nan zero))) 18
+    ∷ numbers (refusal (readOf (extent zero zero nan))) 19
+    ∷ numbers (refusal (readOf (extent one nan nan))) 18
+    ∷ numbers (refusal (readOf (extent nan nan nan))) 7
+    ∷ numbers (refusal (readOf (extent (neg zero) (neg zero) (neg zero)))) 0
     ∷ numbers (firstNo (layoutQuestions twins)) 0
     ∷ doubles (responseOn X (topologyOf twins) (dec 125 3) centre) (cosineOf angle ⊕ sineOf angle ⊕ one)
     ∷ doubles (responseOn Y (topologyOf twins) zero centre) (whole (pos 2))

@@ -2,6 +2,7 @@
 use Prim.Native.Nat.{ℕ, _+_, _/_, min}
 use mathlib.Core.Bool.{Bool, _&&_, cond}
 use mathlib.Core.List.{List, [], _∷_}
+use lib.Dec.{eqb}
 use lib.IntN.{pos}
 use lib.Ieee.{Float, binary64, le, toUnsigned}
 use lib.Ieee.Scale.{finite}
@@ -9,16 +10,34 @@ use lib.ListN.{getD}
 use Rattle.doubles.specs.Arithmetic.{_⊕_, _⊖_, _⊗_, _⊘_, dec, whole, zero, one}
 use Rattle.doubles.specs.Floor.{floorOf}
 use Rattle.doubles.specs.Range.{between, clampTo}
+use Rattle.layout.specs.Questions.{Question, firstNo}
 use Rattle.extent.specs.declared.Extent.{Extent}
 use Rattle.extent.specs.declared.Reading.{Reading}
 use Rattle.extent.specs.declared.Reading.the-variants.{Refused, Read}
 
--- 7. Is each extent component finite and from 0 to 1?
+-- a component is good: finite and from 0 to 1
 abbrev pub component : Float → Bool
 component v = finite v && between zero one v
 
+-- 7. Is the extent's x finite and from 0 to 1?
 abbrev pub question7 : Extent → Bool
-question7 e = component (e .x) && component (e .y) && component (e .z)
+question7 e = component (e .x)
+
+-- 18. Is its y?
+abbrev pub question18 : Extent → Bool
+question18 e = component (e .y)
+
+-- 19. Is its z?
+abbrev pub question19 : Extent → Bool
+question19 e = component (e .z)
+
+-- asked in this order, so that the first bad component is the one told
+unfoldable pub extentQuestions : Extent → List Question
+extentQuestions e =
+    record { number = 7; yes = question7 e }
+    ∷ record { number = 18; yes = question18 e }
+    ∷ record { number = 19; yes = question19 e }
+    ∷ []
 
 -- q = floor(v × 32768 + 0.5), at most 32767. The product is exact, so the sum is rounded once.
 unfoldable pub quantised : Float → ℕ
@@ -64,19 +83,8 @@ radiusOf scalar = let s = clampTo zero one scalar in cond (le s (firstKnot .scal
 abbrev pub meanRadius : ℕ → Float
 meanRadius m = radiusOf (whole (pos m) ⊘ whole (pos 32768))
 
--- ---- what reading an extent answers: refusal 7, or mean and radius
+-- ---- what reading an extent answers: the number of the first question with a no, or mean and radius
 abbrev pub readOf : Extent → Reading
-readOf e = cond (question7 e) (Read (meanOf e) (meanRadius (meanOf e))) (Refused 7)
-
--- the same in document 01's numbers: the refusal, 0 where there is none, and then mean and radius
-pub record ExtentNumbers : Type 0 where
-  pub refusal : ℕ
-  pub mean : ℕ
-  pub radius : Float
-
-abbrev pub numbersOf : Reading → ExtentNumbers
-numbersOf (Refused q) = record { refusal = q; mean = 0; radius = zero }
-numbersOf (Read m r) = record { refusal = 0; mean = m; radius = r }
-
-unfoldable pub readingOf : Extent → ExtentNumbers
-readingOf e = cond (question7 e) (record { refusal = 0; mean = meanOf e; radius = meanRadius (meanOf e) }) (record { refusal = 7; mean = 0; radius = zero })
+readOf e =
+    let q = firstNo (extentQuestions e) in
+    cond (eqb q 0) (Read (meanOf e) (meanRadius (meanOf e))) (Refused q)

@@ -2,7 +2,8 @@
 ghost use mathlib.Core.Path.{_≡_};
 ghost use Prim.Native.Nat.{_+_, _<_, min};
 ghost use lib.Ieee.{toUnsigned};
-ghost use Rattle.extent.specs.Extent.{quantised, meanOf, knotAt, radiusBetween, radiusOf, readOf, readingOf, numbersOf};
+ghost use Rattle.layout.specs.Questions.{firstNo};
+ghost use Rattle.extent.specs.Extent.{quantised, meanOf, knotAt, radiusBetween, radiusOf, extentQuestions, readOf};
 use crate::Extent;
 use crate::Reading;
 use doubles::floor;
@@ -80,14 +81,29 @@ fn mean_of(e: Extent) -> u64
     (quantise(e.x) + quantise(e.y) + quantise(e.z)) / 3
 }
 
-// Question 7, and then the mean and the radius.
+// The first of questions 7 (x), 18 (y) and 19 (z) that has a no; 0 where none has.
+fn extent_no(e: Extent) -> u64
+    ensures { λ r. ⌜ r ≡ firstNo (extentQuestions e) ⌝ }
+{
+    if !is_between(0.0, 1.0, e.x) {
+        return 7;
+    }
+    if !is_between(0.0, 1.0, e.y) {
+        return 18;
+    }
+    if !is_between(0.0, 1.0, e.z) {
+        return 19;
+    }
+    0
+}
+
+// The number of the question that refuses the extent, or its mean and its radius.
 pub fn read_extent(e: Extent) -> Reading
     ensures { λ r. ⌜ r ≡ readOf e ⌝ }
-    ensures numbers { λ r. ⌜ numbersOf r ≡ readingOf e ⌝ }
 {
-    let good = is_between(0.0, 1.0, e.x) & is_between(0.0, 1.0, e.y) & is_between(0.0, 1.0, e.z);
-    if !good {
-        return Reading::Refused(7);
+    let q = extent_no(e);
+    if q != 0 {
+        return Reading::Refused(q);
     }
     let mean = mean_of(e);
     Reading::Read(mean, extent_radius((mean as f64) / Q))

@@ -12,7 +12,7 @@ use Rattle.layout.specs.Channels.{activeCount}
 use Rattle.layout.specs.Questions.{Question, firstNo, layoutQuestions}
 use Rattle.extent.specs.declared.Extent.{Extent}
 use Rattle.gains.specs.declared.Centre.{Centre}
-use Rattle.extent.specs.Extent.{question7, meanOf, meanRadius}
+use Rattle.extent.specs.Extent.{extentQuestions, meanOf, meanRadius}
 use Rattle.field.specs.Place.{filled}
 use Rattle.gains.specs.Gains.{projected}
 use Rattle.region.specs.declared.RegionSemanticState.{RegionSemanticState}
@@ -72,18 +72,18 @@ question13 c size = leb (answered c) (length (c .gains)) && leb 285312 size
 
 -- 14. Does the state hold at most eight keys and an oldest place below eight? question14 of slots/specs/Serve.antt
 
--- questions 1 to 13 are about the arguments and the length of the store alone
+-- 1 to 6, then 7, 18 and 19, then 8 to 13: about the arguments and the length of the store alone
 unfoldable pub argumentQuestions : Call → ℕ → List Question
 argumentQuestions c size =
     layoutQuestions (c .layout)
-    ++ (record { number = 7; yes = question7 (c .extent) }
-    ∷ record { number = 8; yes = question8 (c .flags) }
+    ++ (extentQuestions (c .extent)
+    ++ (record { number = 8; yes = question8 (c .flags) }
     ∷ record { number = 9; yes = question9 (stateOf c) (c .layout) }
     ∷ record { number = 10; yes = question10 (stateOf c) (c .layout) }
     ∷ record { number = 11; yes = question11 c }
     ∷ record { number = 12; yes = question12 c }
     ∷ record { number = 13; yes = question13 c size }
-    ∷ [])
+    ∷ []))
 
 unfoldable pub callQuestions : Call → Found → List Question
 unfolding argumentQuestions

@@ -10,7 +10,7 @@ use Rattle.doubles.specs.Arithmetic.{zero}
 use Rattle.layout.specs.declared.Layout.{Layout}
 use Rattle.layout.specs.Questions.{Question, firstNo, layoutQuestions}
 use Rattle.extent.specs.declared.Extent.{Extent}
-use Rattle.extent.specs.Extent.{question7}
+use Rattle.extent.specs.Extent.{extentQuestions}
 use Rattle.gains.specs.declared.Centre.{Centre}
 use Rattle.region.specs.Zones.{zonesOf, question8, defaultState}
 use Rattle.selection.specs.Selection.{question9, question10, selectedLayout}
@@ -23,7 +23,7 @@ use Rattle.selector.specs.declared.Reply.{Reply}
 use Rattle.selector.specs.declared.Selector.{Selector}
 use Rattle.selector.specs.Call.{Call, Found, Wanted, Answer, stateIn, outcomeOf}
 
--- questions 8 to 10, 7 to 10, and 1 to 10
+-- questions 8 to 10; those of the extent and these; and questions 1 to 6 before all of them
 unfoldable pub zoneQuestions : Layout → List Bool → List Question
 zoneQuestions l flags =
     let s = stateIn (zonesOf flags) in
@@ -33,7 +33,7 @@ zoneQuestions l flags =
     ∷ []
 
 abbrev pub objectQuestions : Layout → Extent → List Bool → List Question
-objectQuestions l e flags = record { number = 7; yes = question7 e } ∷ zoneQuestions l flags
+objectQuestions l e flags = extentQuestions e ++ zoneQuestions l flags
 
 unfoldable pub planQuestions : Layout → Extent → List Bool → List Question
 unfolding zoneQuestions

@@ -1,4 +1,4 @@
-// Questions 7 to 10, and what they leave: the region state, the selected key, the mean and the radius.
+// The questions of the extent and 8 to 10, and what they leave: the region state, the selected key, the mean and the radius.
 ghost use mathlib.Core.Path.{_≡_};
 ghost use Prim.Native.Nat.{ℕ};
 ghost use Rattle.layout.specs.declared.Layout.{Layout as LayoutValue};
@@ -48,7 +48,7 @@ fn selected(
     }
 }
 
-// Questions 7 to 10. The key becomes that of the selected layout.
+// Questions 7, 18, 19 and 8 to 10, in this order. The key becomes that of the selected layout.
 pub(crate) fn plan(e: Extent, flags: [bool; 6], key: &mut [u64; 156], places: &[f64; 52]) -> Plan
     ensures { λ r. ⌜ ((l : LayoutValue) (epoch : ℕ) → PackedAs l epoch (now (key .entry)) (now (places .entry)) → Accepted l → ChosenBy l epoch flags (objectQuestions l e flags) (meanOf e) (meanRadius (meanOf e)) (now (key .exit)) r) ⌝ }
 {

@@ -135,7 +135,7 @@ fn is_built(w: Word) -> bool
     }
 }
 
-// The call over lent words: the gains of a wide object, by the fourteen questions and the eight-place
+// The call over lent words: the gains of a wide object, by the sixteen questions and the eight-place
 // rule. The layout is handed on by value only where a field is built or a question of 1 to 6 has a no:
 // to copy it is what costs.
 pub fn project_outcome_with_epoch(

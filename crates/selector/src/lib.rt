@@ -97,8 +97,8 @@ impl Selector {
     }
 }
 
-// What questions 7 to 10 leave of a call: the number of the first no, 0 where there is none, and then
-// the region state, the mean and the radius.
+// What the questions of the extent and 8 to 10 leave of a call: the number of the first no, 0 where
+// there is none, and then the region state, the mean and the radius.
 struct Plan {
     refusal: u64,
     state: RegionSemanticState,

@@ -32,10 +32,20 @@ pub mod extent {
                 z.map_or(Vec::new(), |z| ends(z, 1)),
             ]
         }
-        /// Mean and radius of an extent.
-        pub fn read(extent: [f64; 3]) -> Option<(u32, f64)> {
-            let (mean, scalar) = super::extent_scalar(extent).ok()?;
-            Some((mean, super::extent_radius(scalar)))
+        /// Mean and radius of an extent, or the number of the first question, 7 for x, 18 for y and 19 for
+        /// z, whose component the original refuses where the other two are 0.
+        pub fn read(extent: [f64; 3]) -> Result<(u32, f64), u32> {
+            let whole = super::extent_scalar(extent);
+            for (i, no) in [7, 18, 19].into_iter().enumerate() {
+                let mut alone = [0.0; 3];
+                alone[i] = extent[i];
+                if super::extent_scalar(alone).is_err() {
+                    assert!(whole.is_err());
+                    return Err(no);
+                }
+            }
+            let (mean, scalar) = whole.unwrap();
+            Ok((mean, super::extent_radius(scalar)))
         }
 
         /// A field, with room for chosen numbers in its tables.

@@ -1,10 +1,11 @@
--- What questions 7 to 10 leave. Assumes nothing.
+-- What the questions of the extent and 8 to 10 leave. Assumes nothing.
 use Prim.Native.Nat.{ℕ, _≤_}
 use mathlib.Core.Path.{_≡_, refl, sym, ap, _∙_}
 use mathlib.Core.Bool.{Bool, true, false, cond, true≢false, false≢true}
 use mathlib.Core.List.{List, [], _∷_, _++_}
 use native.Mathlib.Omega.{arith}
-use borrow.Author.Tests.{le-ltb}
+use borrow.Author.Tests.{le-ltb, eq-eqb, eqb-true}
+use lib.Dec.{eqb}
 use lib.Ieee.{Float}
 use lib.ListN.{take, getD}
 use Rattle.layout.specs.declared.Layout.{Layout}
@@ -12,7 +13,7 @@ use Rattle.layout.specs.Questions.{Question, firstNo}
 use Rattle.extent.specs.declared.Extent.{Extent}
 use Rattle.extent.specs.declared.Reading.{Reading}
 use Rattle.extent.specs.declared.Reading.the-variants as reading
-use Rattle.extent.specs.Extent.{question7, meanOf, meanRadius, readOf}
+use Rattle.extent.specs.Extent.{extentQuestions, meanOf, meanRadius, readOf}
 use Rattle.region.specs.declared.RegionHorizontalState.{RegionHorizontalState}
 use Rattle.region.specs.declared.RegionSemanticState.{RegionSemanticState}
 use Rattle.region.specs.declared.RegionTopBottomState.{RegionTopBottomState}
@@ -26,7 +27,7 @@ use Rattle.selector.specs.Call.{stateIn}
 use Rattle.selector.specs.Steps.{zoneQuestions, objectQuestions, refusedPlan, ChosenBy}
 use Rattle.keys.specs.Keys.{keyWords}
 use Rattle.slots.proofs.Later.{yes-first}
-use Rattle.selector.proofs.Questions.{Numbered}
+use Rattle.selector.proofs.Questions.{Numbered, extent-numbered}
 
 -- ---- a list of questions with a no among the first
 pub first-stays : (qs rs : List Question) → (firstNo qs ≡ 0 → ⊥) → firstNo (qs ++ rs) ≡ firstNo qs
@@ -111,27 +112,31 @@ module _ (l : Layout) (epoch : ℕ) (flags : List Bool) (mean : ℕ) (radius : F
         λ h. (sym i, k h ∙ ap (λ (v : RegionSemanticState). keyWords (selectedLayout v l) epoch) (sym i), refl, refl),
       )
 
--- ---- questions 7 to 10
+-- ---- the questions of the extent, and then these
 module _ (l : Layout) (epoch : ℕ) (e : Extent) (flags : List Bool) (key : List ℕ) where
   abbrev Planned : Plan → Type 0
   Planned p = ChosenBy l epoch flags (objectQuestions l e flags) (meanOf e) (meanRadius (meanOf e)) key p
 
+  abbrev extentNo : ℕ
+  extentNo = firstNo (extentQuestions e)
+
   pub refused-extent : (g : Reading) (q : ℕ) (p : Plan) → g ≡ readOf e → g ≡ reading.Refused q → p ≡ refusedPlan q → Planned p
-  refused-extent g q p r d m = go (question7 e) refl (sym r ∙ d)
+  refused-extent g q p r d m = go (eqb extentNo 0) refl (sym r ∙ d)
     where
-      go : (b : Bool) → question7 e ≡ b → cond b (reading.Read (meanOf e) (meanRadius (meanOf e))) (reading.Refused 7) ≡ reading.Refused q → Planned p
+      go : (b : Bool) → eqb extentNo 0 ≡ b → cond b (reading.Read (meanOf e) (meanRadius (meanOf e))) (reading.Refused extentNo) ≡ reading.Refused q → Planned p
       go true y k = absurd (true≢false (unfold isRead in ap isRead k))
       go false y k =
-          let seven : 7 ≡ q = unfold meanIn in ap meanIn k in
-          let a : p .refusal ≡ 7 = ap (λ (x : Plan). x .refusal) m ∙ sym seven in
-          (a ∙ sym (ap (λ (b : Bool). cond b (firstNo (zoneQuestions l flags)) 7) y), λ h. absurd (omega (arith, a, h)))
+          let n : extentNo ≡ 0 → ⊥ = λ z. true≢false (sym (eq-eqb extentNo 0 z) ∙ y) in
+          let a : p .refusal ≡ extentNo = ap (λ (x : Plan). x .refusal) m ∙ sym (unfold meanIn in ap meanIn k) in
+          (a ∙ sym (first-stays (extentQuestions e) (zoneQuestions l flags) n), λ h. absurd (n (sym a ∙ h)))
 
   pub read-extent : (g : Reading) (mean : ℕ) (radius : Float) (p : Plan) → g ≡ readOf e → g ≡ reading.Read mean radius → ChosenBy l epoch flags (zoneQuestions l flags) mean radius key p → Planned p
-  read-extent g mean radius p r d c = go (question7 e) refl (sym r ∙ d)
+  read-extent g mean radius p r d c = go (eqb extentNo 0) refl (sym r ∙ d)
     where
-      go : (b : Bool) → question7 e ≡ b → cond b (reading.Read (meanOf e) (meanRadius (meanOf e))) (reading.Refused 7) ≡ reading.Read mean radius → Planned p
+      go : (b : Bool) → eqb extentNo 0 ≡ b → cond b (reading.Read (meanOf e) (meanRadius (meanOf e))) (reading.Refused extentNo) ≡ reading.Read mean radius → Planned p
       go true y k =
+          let z : extentNo ≡ 0 = eqb-true extentNo 0 y in
           let m : meanOf e ≡ mean = unfold meanIn in ap meanIn k in
           let v : meanRadius (meanOf e) ≡ radius = unfold radiusIn in ap (radiusIn radius) k in
-          (c .0 ∙ sym (ap (λ (b : Bool). cond b (firstNo (zoneQuestions l flags)) 7) y), λ h. let z = c .1 h in (z .0, z .1, z .2 ∙ sym m, z .3 ∙ sym v))
+          (c .0 ∙ sym (first-passes (extentQuestions e) (zoneQuestions l flags) (extent-numbered e) z), λ h. let w = c .1 h in (w .0, w .1, w .2 ∙ sym m, w .3 ∙ sym v))
       go false y k = absurd (false≢true (unfold isRead in ap isRead k))

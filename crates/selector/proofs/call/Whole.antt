@@ -1,4 +1,4 @@
--- The whole call: fourteen questions, and then the gains. Assumes nothing.
+-- The whole call: its questions, and then the gains. Assumes nothing.
 use Prim.Native.Nat.{ℕ, _≤_}
 use mathlib.Core.Path.{_≡_, refl, sym, ap, ap₂, _∙_, subst}
 use mathlib.Core.Bool.{Bool, true, cond}
@@ -15,7 +15,7 @@ use Rattle.layout.specs.Channels.{activeCount, active, channelName}
 use Rattle.layout.specs.Questions.{Question, firstNo, layoutQuestions}
 use Rattle.layout.proofs.Sizes.{Sized}
 use Rattle.extent.specs.declared.Extent.{Extent}
-use Rattle.extent.specs.Extent.{question7, meanOf, meanRadius}
+use Rattle.extent.specs.Extent.{extentQuestions, meanOf, meanRadius}
 use Rattle.field.specs.Place.{filled}
 use Rattle.gains.specs.declared.Centre.{Centre}
 use Rattle.gains.specs.Gains.{projected}
@@ -35,7 +35,7 @@ use Rattle.selector.specs.declared.Outcome.the-variants.{Refused, Gains}
 use Rattle.selector.specs.declared.Reply.{Reply}
 use Rattle.selector.specs.Call.{Call, Found, Answer, Wanted, stateIn, argumentQuestions, callQuestions, wanted, served, refusedBy, answerOf}
 use Rattle.selector.specs.Steps.{zoneQuestions, objectQuestions, planQuestions, callBy, foundBy, wantedBy, replyOf}
-use Rattle.selector.proofs.Questions.{Numbered, first-front, layout-numbered}
+use Rattle.selector.proofs.Questions.{Numbered, first-front, layout-numbered, extent-numbered}
 use Rattle.selector.proofs.asked.Chosen.{first-stays, first-passes}
 use Rattle.selector.proofs.call.Answers.{Leaves}
 
@@ -43,28 +43,30 @@ numbered-append : (qs rs : List Question) → Numbered qs → Numbered rs → Nu
 numbered-append [] rs h k = k
 numbered-append (q ∷ qs) rs h k = (h .0, numbered-append qs rs (h .1) k)
 
--- ---- the first ten
+-- ---- the questions before the eleventh
 module _ (l : Layout) (e : Extent) (flags : List Bool) where
-  abbrev four : List Question
-  four = objectQuestions l e flags
+  abbrev object : List Question
+  object = objectQuestions l e flags
 
   plan-numbered : Numbered (planQuestions l e flags)
   unfolding planQuestions zoneQuestions
-  plan-numbered = numbered-append (layoutQuestions l) four (layout-numbered l) (omega arith, (omega arith, (omega arith, (omega arith, tt))))
+  plan-numbered =
+      numbered-append (layoutQuestions l) object (layout-numbered l)
+      (numbered-append (extentQuestions e) (zoneQuestions l flags) (extent-numbered e) (omega arith, (omega arith, (omega arith, tt))))
 
   plan-says : firstNo (planQuestions l e flags) ≡ 0 → (firstNo (layoutQuestions l) ≡ 0) × (question9 (stateIn (zonesOf flags)) l ≡ true)
   unfolding planQuestions zoneQuestions
   plan-says z =
-      let s = first-front (layoutQuestions l) four (layout-numbered l) z in
-      let a = yes-first (question7 e) _ 7 (omega arith) (s .1) in
+      let s = first-front (layoutQuestions l) object (layout-numbered l) z in
+      let a = first-front (extentQuestions e) (zoneQuestions l flags) (extent-numbered e) (s .1) in
       let b = yes-first (question8 flags) _ 8 (omega arith) (a .1) in
       let d = yes-first (question9 (stateIn (zonesOf flags)) l) _ 9 (omega arith) (b .1) in
       (s .0, d .0)
 
-  module _ (good : firstNo (layoutQuestions l) ≡ 0) (p : ℕ) (f : p ≡ firstNo four) where
+  module _ (good : firstNo (layoutQuestions l) ≡ 0) (p : ℕ) (f : p ≡ firstNo object) where
     pub with-layout : p ≡ firstNo (planQuestions l e flags)
     unfolding planQuestions
-    with-layout = f ∙ sym (first-passes (layoutQuestions l) four (layout-numbered l) good)
+    with-layout = f ∙ sym (first-passes (layoutQuestions l) object (layout-numbered l) good)
 
     -- what the selected layout has
     module _ (s : Sized l) (z : p ≡ 0) where
@@ -74,7 +76,7 @@ module _ (l : Layout) (e : Extent) (flags : List Bool) where
       pub chosen-passes : l .depth ≤ 4 → selectionRefusal (stateIn (zonesOf flags)) l ≡ 0
       unfolding zoneQuestions
       chosen-passes few =
-          let a = yes-first (question7 e) _ 7 (omega arith) (sym f ∙ z) in
+          let a = first-front (extentQuestions e) (zoneQuestions l flags) (extent-numbered e) (sym f ∙ z) in
           let b = yes-first (question8 flags) _ 8 (omega arith) (a .1) in
           ap (λ (x : Bool). cond x 2 (firstNo (record { number = 9; yes = question9 (stateIn (zonesOf flags)) l } ∷ record { number = 10; yes = question10 (stateIn (zonesOf flags)) l } ∷ []))) (le-ltb 4 (l .depth) few) ∙ b .1
 
@@ -103,7 +105,7 @@ pub packed-here : (l : Layout) → Sized l → (epoch : ℕ) (old : List Float) 
 packed-here l s epoch old key places n k p =
     subst (λ (x : List ℕ). PackedAs l epoch x places) (sym k) (subst (λ (x : List Float). PackedAs l epoch (keyWords l epoch) x) (sym p) (packed-as l s epoch old n))
 
--- ---- all fourteen
+-- ---- all of them
 module _ (words : List ℕ) (r : Ring) (store : List Float) (l : Layout) (epoch : ℕ) (e : Extent) (flags : List Bool) (c : Centre) (points gains : List Float) where
   abbrev C : Call
   C = callBy l epoch e flags c points gains
@@ -118,8 +120,8 @@ module _ (words : List ℕ) (r : Ring) (store : List Float) (l : Layout) (epoch 
   L n = laterQuestions c points n (length gains) (length store) r
 
   in-two : callQuestions C F ≡ P ++ L (activeCount l)
-  unfolding callQuestions argumentQuestions planQuestions zoneQuestions laterQuestions
-  in-two = append-assoc (layoutQuestions l) _ _ ∙ sym (append-assoc (layoutQuestions l) (four l e flags) (L (activeCount l)))
+  unfolding callQuestions argumentQuestions extentQuestions planQuestions zoneQuestions laterQuestions
+  in-two = append-assoc (layoutQuestions l) _ _ ∙ sym (append-assoc (layoutQuestions l) (object l e flags) (L (activeCount l)))
 
   module _ (p : ℕ) (f : p ≡ firstNo P) where
     by-plan : (p ≡ 0 → ⊥) → firstNo (callQuestions C F) ≡ p
@@ -145,7 +147,7 @@ module _ (words : List ℕ) (r : Ring) (store : List Float) (l : Layout) (epoch 
 
   pub layout-refuses : (q : ℕ) (reply : Reply) → q ≡ firstNo (layoutQuestions l) → (q ≡ 0 → ⊥) → reply ≡ record { outcome = Refused q; ring = r } → Leaves (answerOf C F) reply words store gains
   unfolding planQuestions
-  layout-refuses q reply f n m = plan-refuses q reply (f ∙ sym (first-stays (layoutQuestions l) (four l e flags) (λ z. n (f ∙ z)))) n m
+  layout-refuses q reply f n m = plan-refuses q reply (f ∙ sym (first-stays (layoutQuestions l) (object l e flags) (λ z. n (f ∙ z)))) n m
 
   pub later-refuses : (p n q : ℕ) (reply : Reply) → p ≡ firstNo P → p ≡ 0 → n ≡ activeCount l → q ≡ firstNo (L n) → (q ≡ 0 → ⊥) → reply ≡ record { outcome = Refused q; ring = r } → Leaves (answerOf C F) reply words store gains
   later-refuses p n q reply f z m g k o = refused-leaves q reply (by-later p f z n q m g) k o

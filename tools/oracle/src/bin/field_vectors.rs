@@ -67,9 +67,12 @@ impl Script {
             self.put(936, x.to_bits());
         }
         self.put(940, p as u64);
-        let Some((mean, radius)) = open::read(extent) else {
-            self.answers.push_str("7\n");
-            return;
+        let (mean, radius) = match open::read(extent) {
+            Ok(read) => read,
+            Err(no) => {
+                writeln!(self.answers, "{no}").unwrap();
+                return;
+            }
         };
         writeln!(self.answers, "{mean} {:016x}", radius.to_bits()).unwrap();
         let descriptor = SpatialDescriptor::wide(centre, extent, None, points);
@@ -220,7 +223,17 @@ fn main() {
     s.spread(-7.25);
     tables(&mut s, &mut random, &list, 9);
     projections(&mut s, &mut random, &list, 40);
-    for e in [[f64::NAN, 0.0, 0.0], [0.0, 1.5, 0.0], [0.0, 0.0, -0.1], [f64::INFINITY, 0.0, 0.0]] {
+    let past_their_ends = [
+        [f64::NAN, 0.0, 0.0],
+        [0.0, 1.5, 0.0],
+        [0.0, 0.0, -0.1],
+        [f64::INFINITY, 0.0, 0.0],
+        [-0.0, f64::NAN, f64::INFINITY],
+        [-0.0, 1.0, 1.0 + f64::EPSILON],
+        [-f64::from_bits(1), 0.0, f64::NAN],
+        [2.0; 3],
+    ];
+    for e in past_their_ends {
         let l = &list[0];
         let field = open::Field::build(l);
         s.layout(l);

@@ -337,16 +337,14 @@ impl Scene {
         SpatialDescriptor::wide(self.centre, self.extent, Some(self.zones), &self.points)
     }
 
-    /// The fourteen questions: the selected layout, or the first that is answered no.
+    /// The sixteen questions: the selected layout, or the first that is answered no.
     fn questions(&self) -> Result<SpatialLayout, u32> {
         if let Some(no) = self.room.first_no() {
             return Err(no);
         }
         let layout = self.room.layout();
         let n = self.room.active().len();
-        if !self.extent.iter().all(|x| x.is_finite() && (0.0..=1.0).contains(x)) {
-            return Err(7);
-        }
+        open::read(self.extent)?;
         let Some(state) = horizontal(self.zones) else {
             return Err(8);
         };
@@ -386,7 +384,7 @@ impl Scene {
             Ok(layout) => layout,
             Err(no) => {
                 // the original refuses what it asks about
-                if (7..=10).contains(&no) {
+                if matches!(no, 7 | 18 | 19 | 8..=10) {
                     let mut fresh = RegionTopologySelector::new();
                     let theirs = region::open::gains(&mut fresh, &self.room.layout(), &self.descriptor(), self.epoch);
                     assert!(theirs.is_err());

@@ -1,6 +1,6 @@
 //! Writes random scene scripts: `scenes SEED COUNT FOLDER` makes COUNT files of about 60 calls each and
 //! tells in how many of them a room has twins. `scenes twins` writes one script of such rooms alone,
-//! under all twelve zone states.
+//! under all twelve zone states, and `scenes sliders` one of extents at and past their ends.
 use oracle::{random::Random, rooms, SpatialLayout};
 use std::{
     env, fs,
@@ -292,6 +292,19 @@ struct Call {
     store: u64,
 }
 
+/// What no component of an extent may be: NaN of two patterns, the infinities, and numbers below 0 and
+/// above 1, the nearest ones among them.
+const NO_COMPONENTS: [f64; 8] = [
+    f64::NAN,
+    f64::from_bits(0x7ff0_0000_0000_0001),
+    f64::INFINITY,
+    f64::NEG_INFINITY,
+    -f64::from_bits(1),
+    -1.0,
+    1.0 + f64::EPSILON,
+    2.0,
+];
+
 /// Makes a call such that question q is answered no, if none before it is; 14 is not among them.
 fn spoil(random: &mut Random, call: &mut Call, q: u64) {
     let draft = &mut call.draft;
@@ -397,10 +410,10 @@ fn spoil(random: &mut Random, call: &mut Call, q: u64) {
             }
         }
         7 => {
-            let over = f64::from_bits(1.0f64.to_bits() + 1);
-            let tiny = -f64::from_bits(1);
-            let value = if random.below(2) == 0 { one_of(random, &bad) } else { one_of(random, &[over, tiny, -1.0, 2.0]) };
-            call.extent[random.below(3) as usize] = value;
+            // one component, or up to three
+            for _ in 0..1 + random.below(3) {
+                call.extent[random.below(3) as usize] = one_of(random, &NO_COMPONENTS);
+            }
         }
         8 => {
             call.zones = (0..6).map(|_| one_of(random, &['T', 'F'])).collect();
@@ -781,14 +794,70 @@ fn twins() -> Vec<u8> {
     s.text
 }
 
+/// Each component of an extent past its ends in each way, alone and with one or both of the others, in
+/// a room that question 6 refuses, with flags that question 8 refuses, and with both; and at its ends.
+fn sliders() -> Vec<u8> {
+    let mut s = Script { text: Vec::new(), random: Random(3), now: None, twins: false };
+    let call = Call {
+        draft: Draft::of(&rooms::real()[2]),
+        epoch: 0,
+        extent: [0.3; 3],
+        zones: "TTTTTT".to_owned(),
+        centre: [0.5, 0.25, 0.0],
+        points: vec![0.5; 5],
+        slots: 24,
+        store: STORE,
+    };
+    let mut unnamed = call.draft.clone();
+    unnamed.anchors()[1].0 = "none".to_owned();
+    s.line("fresh");
+    s.call(&call);
+    // which components are past their ends: one bit for each
+    for which in 1..8 {
+        for k in 0..NO_COMPONENTS.len() {
+            let mut other = call.clone();
+            for i in (0..3).filter(|i| which >> i & 1 == 1) {
+                other.extent[i] = NO_COMPONENTS[(k + 3 * i) % NO_COMPONENTS.len()];
+            }
+            s.call(&other);
+            other.zones = "FFFFFT".to_owned();
+            s.call(&other);
+            if k % 4 == 0 {
+                other.draft = unnamed.clone();
+                s.call(&other);
+                other.zones = call.zones.clone();
+                s.call(&other);
+            }
+        }
+        s.line("show");
+        s.call(&call);
+    }
+    for end in [0.0, -0.0, f64::from_bits(1), 1.0 - f64::EPSILON / 2.0, 1.0] {
+        for i in 0..3 {
+            let mut other = call.clone();
+            other.extent[i] = end;
+            s.call(&other);
+        }
+        s.call(&Call { extent: [end; 3], ..call.clone() });
+    }
+    s.line("show");
+    s.text
+}
+
 fn main() {
     let arguments: Vec<String> = env::args().collect();
-    if let [_, "twins"] = arguments.iter().map(String::as_str).collect::<Vec<_>>()[..] {
-        io::stdout().write_all(&twins()).unwrap();
+    let words: Vec<&str> = arguments.iter().map(String::as_str).collect();
+    let one = match words[..] {
+        [_, "twins"] => Some(twins()),
+        [_, "sliders"] => Some(sliders()),
+        _ => None,
+    };
+    if let Some(text) = one {
+        io::stdout().write_all(&text).unwrap();
         return;
     }
-    let [_, seed, count, folder] = &arguments[..] else {
-        panic!("scenes SEED COUNT FOLDER | scenes twins");
+    let [_, seed, count, folder] = words[..] else {
+        panic!("scenes SEED COUNT FOLDER | scenes twins | scenes sliders");
     };
     let (seed, count): (u64, u64) = (seed.parse().unwrap(), count.parse().unwrap());
     let mut with_twins = 0;

@@ -9,14 +9,14 @@ returns c =
     let t = c .before in
     let g = t .before .before .before in
     let s = g .before in
-    λ l epoch w a. refused-extent l epoch (s .args .e) (s .args .flags) _ _ _ _ (g .read-extent .ensures .0) (t .before .reading .given .1) (c .refused .ensures)
+    λ l epoch w a. refused-extent l epoch (s .args .e) (s .args .flags) _ _ _ _ (g .read-extent .ensures) (t .before .reading .given .1) (c .refused .ensures)
 
 returns-2 : tie.Need-returns-2
 returns-2 c =
     let t = c .before .before in
     let g = t .before .before .before in
     let s = g .before in
-    λ l epoch w a. read-extent l epoch (s .args .e) (s .args .flags) _ _ _ _ _ (g .read-extent .ensures .0) (t .before .reading2 .given .1) (c .selected .ensures l epoch w a)
+    λ l epoch w a. read-extent l epoch (s .args .e) (s .args .flags) _ _ _ _ _ (g .read-extent .ensures) (t .before .reading2 .given .1) (c .selected .ensures l epoch w a)
 
 pub plan-spec : {M : Type 1} → statement M
 plan-spec =

@@ -71,7 +71,7 @@ returns c =
     (λ z. false≢true (sym (not-true (a .is-accepted .result) (i .if1 .taken)) ∙ e ∙ eq-eqb _ 0 (sym (f .first-no .ensures .0) ∙ z)))
     (c .refused .ensures)
 
--- ---- where questions 7 to 10 have no no
+-- ---- where the questions of the extent and 8 to 10 have no no
 abbrev planned : tie.Else2 → tie.After-plan
 planned c = c .before .before
 
