@@ -114,7 +114,8 @@ twins =
 abbrev pub angle : Float
 angle = dec 3141592653589793 15 ⊗ dec 125 3 ⊘ whole (pos 2)
 
--- Doubles and approximations; Extent; Zones and selection; and, without a star, the three least means, the kernel, the other components of an extent, and twin anchors, which are accepted and whose responses add up in topology order
+-- Doubles and approximations; Extent; Zones and selection; and, without a star, the three least means, the kernel,
+-- which component of an extent is told, and twin anchors, which are accepted and whose responses add up in topology order
 unfoldable pub cases : List Case
 unfolding exp2Of sineOf cosineOf extentQuestions quantised radiusOf kernelOf twins layoutQuestions responseOn
 cases =

@@ -15,7 +15,7 @@ use Rattle.extent.specs.declared.Extent.{Extent}
 use Rattle.extent.specs.declared.Reading.{Reading}
 use Rattle.extent.specs.declared.Reading.the-variants.{Refused, Read}
 
--- a component is good: finite and from 0 to 1
+-- what each component is to be: finite and from 0 to 1
 abbrev pub component : Float → Bool
 component v = finite v && between zero one v
 
@@ -23,15 +23,15 @@ component v = finite v && between zero one v
 abbrev pub question7 : Extent → Bool
 question7 e = component (e .x)
 
--- 18. Is its y?
+-- 18. Is its y finite and from 0 to 1?
 abbrev pub question18 : Extent → Bool
 question18 e = component (e .y)
 
--- 19. Is its z?
+-- 19. Is its z finite and from 0 to 1?
 abbrev pub question19 : Extent → Bool
 question19 e = component (e .z)
 
--- asked in this order, so that the first bad component is the one told
+-- in this order, so that the first component with a no is the one told
 unfoldable pub extentQuestions : Extent → List Question
 extentQuestions e =
     record { number = 7; yes = question7 e }

@@ -8,7 +8,7 @@ use lib.ListN.{length}
 use Rattle.layout.specs.declared.Layout.{Layout}
 use Rattle.layout.specs.Questions.{Question, firstNo, layoutQuestions}
 use Rattle.extent.specs.declared.Extent.{Extent}
-use Rattle.extent.specs.Extent.{extentQuestions}
+use Rattle.extent.specs.Extent.{question7, question18, question19, extentQuestions}
 use Rattle.region.specs.Zones.{question8}
 use Rattle.selection.specs.Selection.{question9, question10}
 use Rattle.slots.specs.Serve.{question14}
@@ -42,7 +42,9 @@ asked-alone c f e =
 -- ---- all answers but that to question 14 are yes
 pub record Said (c : Call) (size : ℕ) : Type 0 where
   pub layout : firstNo (layoutQuestions (c .layout)) ≡ 0
-  pub extent : firstNo (extentQuestions (c .extent)) ≡ 0
+  pub yes7 : question7 (c .extent) ≡ true
+  pub yes18 : question18 (c .extent) ≡ true
+  pub yes19 : question19 (c .extent) ≡ true
   pub yes8 : question8 (c .flags) ≡ true
   pub yes9 : question9 (stateOf c) (c .layout) ≡ true
   pub yes10 : question10 (stateOf c) (c .layout) ≡ true
@@ -59,14 +61,16 @@ unfolding extentQuestions
 extent-numbered e = (omega arith, (omega arith, (omega arith, tt)))
 
 pub said : (c : Call) (size : ℕ) → firstNo (argumentQuestions c size) ≡ 0 → Said c size
-unfolding argumentQuestions
+unfolding argumentQuestions extentQuestions
 said c size e =
     let s = first-front (layoutQuestions (c .layout)) _ (layout-numbered (c .layout)) e in
-    let a = first-front (extentQuestions (c .extent)) _ (extent-numbered (c .extent)) (s .1) in
-    let b = yes-first (question8 (c .flags)) _ 8 (omega arith) (a .1) in
+    let x = yes-first (question7 (c .extent)) _ 7 (omega arith) (s .1) in
+    let y = yes-first (question18 (c .extent)) _ 18 (omega arith) (x .1) in
+    let z = yes-first (question19 (c .extent)) _ 19 (omega arith) (y .1) in
+    let b = yes-first (question8 (c .flags)) _ 8 (omega arith) (z .1) in
     let d = yes-first (question9 (stateOf c) (c .layout)) _ 9 (omega arith) (b .1) in
     let g = yes-first (question10 (stateOf c) (c .layout)) _ 10 (omega arith) (d .1) in
     let h = yes-first (question11 c) _ 11 (omega arith) (g .1) in
     let i = yes-first (question12 c) _ 12 (omega arith) (h .1) in
     let j = yes-first (question13 c size) _ 13 (omega arith) (i .1) in
-    record { layout = s .0; extent = a .0; yes8 = b .0; yes9 = d .0; yes10 = g .0; yes11 = h .0; yes12 = i .0; yes13 = j .0 }
+    record { layout = s .0; yes7 = x .0; yes18 = y .0; yes19 = z .0; yes8 = b .0; yes9 = d .0; yes10 = g .0; yes11 = h .0; yes12 = i .0; yes13 = j .0 }
