@@ -39,16 +39,10 @@ asked-alone c f e =
     first-append (argumentQuestions c (length (f .store))) (record { number = 14; yes = question14 (f .count) (f .oldest) } ∷ [])
     (ap (λ (b : Bool). cond b 0 14) e)
 
--- ---- all answers but that to question 14 are yes
+-- ---- of a call that only question 14 may refuse: the yeses that the theorem cites
 pub record Said (c : Call) (size : ℕ) : Type 0 where
   pub layout : firstNo (layoutQuestions (c .layout)) ≡ 0
-  pub yes7 : question7 (c .extent) ≡ true
-  pub yes18 : question18 (c .extent) ≡ true
-  pub yes19 : question19 (c .extent) ≡ true
-  pub yes8 : question8 (c .flags) ≡ true
   pub yes9 : question9 (stateOf c) (c .layout) ≡ true
-  pub yes10 : question10 (stateOf c) (c .layout) ≡ true
-  pub yes11 : question11 c ≡ true
   pub yes12 : question12 c ≡ true
   pub yes13 : question13 c size ≡ true
 
@@ -73,4 +67,4 @@ said c size e =
     let h = yes-first (question11 c) _ 11 (omega arith) (g .1) in
     let i = yes-first (question12 c) _ 12 (omega arith) (h .1) in
     let j = yes-first (question13 c size) _ 13 (omega arith) (i .1) in
-    record { layout = s .0; yes7 = x .0; yes18 = y .0; yes19 = z .0; yes8 = b .0; yes9 = d .0; yes10 = g .0; yes11 = h .0; yes12 = i .0; yes13 = j .0 }
+    record { layout = s .0; yes9 = d .0; yes12 = i .0; yes13 = j .0 }

@@ -1,4 +1,5 @@
-// The questions of the extent and 8 to 10, and what they leave: the region state, the selected key, the mean and the radius.
+// The questions of the extent and 8 to 10, and what they leave: the region state, the selected key, the
+// mean and the radius.
 ghost use mathlib.Core.Path.{_≡_};
 ghost use Prim.Native.Nat.{ℕ};
 ghost use Rattle.layout.specs.declared.Layout.{Layout as LayoutValue};

@@ -1,11 +1,10 @@
 -- What the questions of the extent and 8 to 10 leave. Assumes nothing.
 use Prim.Native.Nat.{ℕ, _≤_}
 use mathlib.Core.Path.{_≡_, refl, sym, ap, _∙_}
-use mathlib.Core.Bool.{Bool, true, false, cond, true≢false, false≢true}
+use mathlib.Core.Bool.{Bool, true, false, cond, true≢false}
 use mathlib.Core.List.{List, [], _∷_, _++_}
 use native.Mathlib.Omega.{arith}
-use borrow.Author.Tests.{le-ltb, eq-eqb, eqb-true}
-use lib.Dec.{eqb}
+use borrow.Author.Tests.{le-ltb}
 use lib.Ieee.{Float}
 use lib.ListN.{take, getD}
 use Rattle.layout.specs.declared.Layout.{Layout}
@@ -14,6 +13,7 @@ use Rattle.extent.specs.declared.Extent.{Extent}
 use Rattle.extent.specs.declared.Reading.{Reading}
 use Rattle.extent.specs.declared.Reading.the-variants as reading
 use Rattle.extent.specs.Extent.{extentQuestions, meanOf, meanRadius, readOf}
+use Rattle.extent.proofs.Readings.{refused-says, read-says}
 use Rattle.region.specs.declared.RegionHorizontalState.{RegionHorizontalState}
 use Rattle.region.specs.declared.RegionSemanticState.{RegionSemanticState}
 use Rattle.region.specs.declared.RegionTopBottomState.{RegionTopBottomState}
@@ -44,22 +44,10 @@ first-passes (q ∷ qs) rs h e =
     let s = yes-first (q .yes) (firstNo qs) (q .number) (h .0) e in
     ap (λ (b : Bool). cond b (firstNo (qs ++ rs)) (q .number)) (s .0) ∙ first-passes qs rs (h .1) (s .1)
 
--- ---- the variants of an answer
+-- ---- the flags as they are read
 isState : Zones → Bool
 isState (zones.State s) = true
 isState (zones.Refused n) = false
-
-isRead : Reading → Bool
-isRead (reading.Read m r) = true
-isRead (reading.Refused n) = false
-
-meanIn : Reading → ℕ
-meanIn (reading.Read m r) = m
-meanIn (reading.Refused n) = n
-
-radiusIn : Float → Reading → Float
-radiusIn d (reading.Read m r) = r
-radiusIn d (reading.Refused n) = d
 
 -- flags that are refused are refused with 8
 refused-eight : (hs : List RegionHorizontalState) (five : List Bool) (t : RegionTopBottomState) (q : ℕ) → zonesAmong hs five t ≡ zones.Refused q → q ≡ 8
@@ -117,26 +105,15 @@ module _ (l : Layout) (epoch : ℕ) (e : Extent) (flags : List Bool) (key : List
   abbrev Planned : Plan → Type 0
   Planned p = ChosenBy l epoch flags (objectQuestions l e flags) (meanOf e) (meanRadius (meanOf e)) key p
 
-  abbrev extentNo : ℕ
-  extentNo = firstNo (extentQuestions e)
-
   pub refused-extent : (g : Reading) (q : ℕ) (p : Plan) → g ≡ readOf e → g ≡ reading.Refused q → p ≡ refusedPlan q → Planned p
-  refused-extent g q p r d m = go (eqb extentNo 0) refl (sym r ∙ d)
-    where
-      go : (b : Bool) → eqb extentNo 0 ≡ b → cond b (reading.Read (meanOf e) (meanRadius (meanOf e))) (reading.Refused extentNo) ≡ reading.Refused q → Planned p
-      go true y k = absurd (true≢false (unfold isRead in ap isRead k))
-      go false y k =
-          let n : extentNo ≡ 0 → ⊥ = λ z. true≢false (sym (eq-eqb extentNo 0 z) ∙ y) in
-          let a : p .refusal ≡ extentNo = ap (λ (x : Plan). x .refusal) m ∙ sym (unfold meanIn in ap meanIn k) in
-          (a ∙ sym (first-stays (extentQuestions e) (zoneQuestions l flags) n), λ h. absurd (n (sym a ∙ h)))
+  refused-extent g q p r d m =
+      let k = refused-says e q (sym r ∙ d) in
+      let a : p .refusal ≡ firstNo (extentQuestions e) = ap (λ (x : Plan). x .refusal) m ∙ k .0 in
+      (a ∙ sym (first-stays (extentQuestions e) (zoneQuestions l flags) (k .1)), λ h. absurd (k .1 (sym a ∙ h)))
 
   pub read-extent : (g : Reading) (mean : ℕ) (radius : Float) (p : Plan) → g ≡ readOf e → g ≡ reading.Read mean radius → ChosenBy l epoch flags (zoneQuestions l flags) mean radius key p → Planned p
-  read-extent g mean radius p r d c = go (eqb extentNo 0) refl (sym r ∙ d)
-    where
-      go : (b : Bool) → eqb extentNo 0 ≡ b → cond b (reading.Read (meanOf e) (meanRadius (meanOf e))) (reading.Refused extentNo) ≡ reading.Read mean radius → Planned p
-      go true y k =
-          let z : extentNo ≡ 0 = eqb-true extentNo 0 y in
-          let m : meanOf e ≡ mean = unfold meanIn in ap meanIn k in
-          let v : meanRadius (meanOf e) ≡ radius = unfold radiusIn in ap (radiusIn radius) k in
-          (c .0 ∙ sym (first-passes (extentQuestions e) (zoneQuestions l flags) (extent-numbered e) z), λ h. let w = c .1 h in (w .0, w .1, w .2 ∙ sym m, w .3 ∙ sym v))
-      go false y k = absurd (false≢true (unfold isRead in ap isRead k))
+  read-extent g mean radius p r d c =
+      let k = read-says e mean radius (sym r ∙ d) in (
+        c .0 ∙ sym (first-passes (extentQuestions e) (zoneQuestions l flags) (extent-numbered e) (k .0)),
+        λ h. let w = c .1 h in (w .0, w .1, w .2 ∙ k .1, w .3 ∙ k .2),
+      )

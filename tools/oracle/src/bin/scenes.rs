@@ -305,7 +305,8 @@ const NO_COMPONENTS: [f64; 8] = [
     2.0,
 ];
 
-/// Makes a call such that question q is answered no, if none before it is; 14 is not among them.
+/// Makes a call such that question q is answered no, if none before it is; 7 stands for 18 and 19 too,
+/// and 14 is not among them.
 fn spoil(random: &mut Random, call: &mut Call, q: u64) {
     let draft = &mut call.draft;
     let bad = [f64::NAN, f64::INFINITY, -f64::INFINITY, f64::from_bits(0x7ff0_0000_0000_0001)];
@@ -794,8 +795,9 @@ fn twins() -> Vec<u8> {
     s.text
 }
 
-/// Each component of an extent past its ends in each way, alone and with one or both of the others, in
-/// a room that question 6 refuses, with flags that question 8 refuses, and with both; and at its ends.
+/// Each component of an extent past its ends in each way, alone and with one or both of the others, with
+/// good flags and with flags that question 8 refuses, and a quarter of these in a room that question 6
+/// refuses; and each component at its ends.
 fn sliders() -> Vec<u8> {
     let mut s = Script { text: Vec::new(), random: Random(3), now: None, twins: false };
     let call = Call {

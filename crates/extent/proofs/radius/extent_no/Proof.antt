@@ -5,7 +5,8 @@ use borrow.Author.Needs.{needs}
 use borrow.Author.Tests.{not-true, not-false}
 use lib.Ieee.{ofBits}
 use Rattle.extent.specs.Extent.{question7, question18, question19}
-use Rattle.extent.proofs.radius.Ranges.{component-is, extent-7, extent-18, extent-19, extent-none}
+use Rattle.extent.proofs.Readings.{extent-7, extent-18, extent-19, extent-none}
+use Rattle.extent.proofs.radius.Ranges.{component-is}
 use Rattle.extent.proofs.radius.extent_no.Statement.{statement}
 use Rattle.extent.proofs.radius.extent_no.Tie as tie
 

@@ -4,7 +4,8 @@ use native.Mathlib.Omega.{arith}
 use borrow.Author.Needs.{needs}
 use lib.Ieee.{ofBits, ofInt, round}
 use Rattle.extent.proofs.Casts.{casts}
-use Rattle.extent.proofs.radius.Ranges.{read-yes, read-no, mean-le}
+use Rattle.extent.proofs.Readings.{read-yes, read-no}
+use Rattle.extent.proofs.radius.Ranges.{mean-le}
 use Rattle.extent.proofs.radius.read_extent.Statement.{statement}
 use Rattle.extent.proofs.radius.read_extent.Tie as tie
 
