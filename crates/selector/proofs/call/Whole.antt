@@ -43,7 +43,7 @@ numbered-append : (qs rs : List Question) → Numbered qs → Numbered rs → Nu
 numbered-append [] rs h k = k
 numbered-append (q ∷ qs) rs h k = (h .0, numbered-append qs rs (h .1) k)
 
--- ---- the questions before the eleventh
+-- ---- the questions before question 11
 module _ (l : Layout) (e : Extent) (flags : List Bool) where
   abbrev object : List Question
   object = objectQuestions l e flags
