@@ -1,27 +1,29 @@
 //! Takes extent.rs and region.rs from the folder that OPENJOC_SCENE names (crates/openjoc-scene/src
-//! of chyinan/OpenJOC at commit b675bb9bd5) and puts the stand-ins of document 01 in place of the
-//! calls that no standard fixes. Nothing else is changed; the copies stay in the build folder.
+//! of chyinan/OpenJOC at commit b675bb9bd5), puts the stand-ins of document 01 in place of the calls
+//! that no standard fixes, and quantises an extent as request 9 has it. Nothing else is changed; the
+//! copies stay in the build folder.
 use std::{env, fs, path::PathBuf};
 
 fn main() {
     println!("cargo:rerun-if-env-changed=OPENJOC_SCENE");
     let from = PathBuf::from(env::var("OPENJOC_SCENE").expect("OPENJOC_SCENE names the folder of extent.rs"));
     let to = PathBuf::from(env::var("OUT_DIR").unwrap());
-    // the call, what takes its place, and how often it stands in extent.rs and in region.rs
-    let calls = [
+    // the text, what takes its place, and how often it stands in extent.rs and in region.rs
+    let changes = [
         (".cos()", ".stand_in_cos()", [6, 0]),
         (".sin()", ".stand_in_sin()", [5, 0]),
         (".powi(", ".stand_in_powi(", [3, 0]),
         (".log2()", ".stand_in_log2()", [1, 0]),
+        ("value.mul_add(Q, 0.5).floor()", "(value * Q).round_ties_even()", [1, 0]),
         // an inner comment can't stand where the file is included
         ("//!", "//", [6, 6]),
     ];
     for (file, name) in ["extent.rs", "region.rs"].into_iter().enumerate() {
         println!("cargo:rerun-if-changed={}", from.join(name).display());
         let mut text = fs::read_to_string(from.join(name)).expect(name);
-        for (call, stand_in, counts) in calls {
-            assert_eq!(text.matches(call).count(), counts[file], "{name}: {call}");
-            text = text.replace(call, stand_in);
+        for (old, new, counts) in changes {
+            assert_eq!(text.matches(old).count(), counts[file], "{name}: {old}");
+            text = text.replace(old, new);
         }
         fs::write(to.join(name), text).unwrap();
         // the calls as they are, for the benchmarks

@@ -46,15 +46,16 @@ doubles x y = record { found = toBits binary64 x; expected = toBits binary64 y }
 abbrev pub numbers : ℕ → ℕ → Case
 numbers n m = record { found = n; expected = m }
 
--- an extent, 1 / 65536, and the largest double below it
+-- an extent
 abbrev pub extent : Float → Float → Float → Extent
 extent x y z = record { x = x; y = y; z = z }
 
-abbrev pub tiny : Float
-tiny = fin false 1 (negsuc 15)
+-- k halves of 1 / 32768, which is exact: k / 65536; and the largest double below one
+abbrev pub halves : ℕ → Float
+halves k = whole (pos k) ⊘ whole (pos 65536)
 
-abbrev pub belowTiny : Float
-belowTiny = fin false 9007199254740991 (negsuc 68)
+abbrev pub belowHalf : Float
+belowHalf = fin false 9007199254740991 (negsuc 68)
 
 -- the question by which a reading is refused; 0 where it is not
 abbrev pub refusal : Reading → ℕ
@@ -115,7 +116,8 @@ abbrev pub angle : Float
 angle = dec 3141592653589793 15 ⊗ dec 125 3 ⊘ whole (pos 2)
 
 -- Doubles and approximations; Extent; Zones and selection; and, without a star, the three least means, the kernel,
--- which component of an extent is told, and twin anchors, which are accepted and whose responses add up in topology order
+-- components that lie halfway or at an end, which component of an extent is told, and twin anchors, which are accepted
+-- and whose responses add up in topology order
 unfoldable pub cases : List Case
 unfolding exp2Of sineOf cosineOf extentQuestions quantised radiusOf kernelOf twins layoutQuestions responseOn
 cases =
@@ -127,9 +129,9 @@ cases =
     ∷ numbers (meanOf (extent zero zero zero)) 0
     ∷ numbers (meanOf (extent one one one)) 32767
     ∷ numbers (meanOf (extent one zero zero)) 10922
-    ∷ numbers (meanOf (extent tiny tiny tiny)) 1
-    ∷ numbers (meanOf (extent belowTiny belowTiny belowTiny)) 1
-    ∷ numbers (meanOf (extent tiny zero zero)) 0
+    ∷ numbers (meanOf (extent (halves 1) (halves 1) (halves 1))) 0
+    ∷ numbers (meanOf (extent belowHalf belowHalf belowHalf)) 0
+    ∷ numbers (meanOf (extent (halves 1) zero zero)) 0
     ∷ numbers (refusal (readOf (extent nan zero zero))) 7
     ∷ zones (zonesOf (F ∷ F ∷ F ∷ F ∷ F ∷ T ∷ [])) (Refused 8)
     ∷ zones (zonesOf (T ∷ T ∷ T ∷ T ∷ T ∷ F ∷ [])) (State (record { horizontal = NoConstraints; top = Exclude }))
@@ -142,6 +144,11 @@ cases =
     ∷ numbers (bit (lt (meanRadius 3) threshold)) 0
     ∷ doubles (kernelOf (dec 5 1) (dec 5 1) (dec 1 1) false) one
     ∷ doubles (kernelOf (dec 5 1) (dec 5 1) (dec 24 6) false) zero
+    ∷ numbers (quantised (halves 1)) 0
+    ∷ numbers (quantised (halves 3)) 2
+    ∷ numbers (quantised belowHalf) 0
+    ∷ numbers (quantised one) 32767
+    ∷ numbers (quantised (neg zero)) 0
     ∷ numbers (refusal (readOf (extent zero nan zero))) 18
     ∷ numbers (refusal (readOf (extent zero zero nan))) 19
     ∷ numbers (refusal (readOf (extent one nan nan))) 18

@@ -17,5 +17,6 @@ pub mod Floors
 pub mod NearestWhole
 pub mod Exponents
 pub mod PowersOfTwo
+pub mod WholePatterns
 pub mod Squares
 pub mod Logarithms

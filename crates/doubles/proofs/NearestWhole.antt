@@ -18,7 +18,7 @@ use lib.Ieee.Nearest.{closest, closest-same}
 use lib.Ieee.Order.{drop}
 use lib.Ieee.Positive.{first-pos}
 use Rattle.doubles.specs.Floor.{floorOf, shift, floorNear}
-use Rattle.doubles.proofs.Rounding.{drop-is, closest-near}
+use Rattle.doubles.proofs.Rounding.{drop-is, closest-near, closest-moved}
 use Rattle.doubles.proofs.Fractions.{rescale, add-of, lt-of, sum-plain, sum-minus, sum-turned}
 use Rattle.doubles.proofs.AddZero.{minusZero, plus-zero, add-zero-same, clear-not, value-not}
 use Rattle.doubles.proofs.Signs.{round-clear}
@@ -35,15 +35,11 @@ at-most g P D N h a b = lt-of-mul-lt-mul-right (2 * D) (go (g * (2 * D)) (suc P 
     go : (x y u v : ℕ) → x ≡ 2 * u → y ≡ 2 * v + 2 * D → 2 * u ≤ 2 * N + D → N < v → x < y
     go x y u v e k a b = omega arith
 
-abbrev Rounded : Format → ℕ → ℕ → Type 0
-Rounded f N D = (g : ℕ) × HasValue (round f false N D) false g 1 × (2 * N ≤ 2 * (g * D) + D) × (2 * (g * D) ≤ 2 * N + D)
-
-pub round-to-whole : (f : Format) (N D : ℕ) → 0 < D → 2 ^ (prec f - 1) * D ≤ N → N < 2 ^ prec f * D → Rounded f N D
-round-to-whole f N D P lo hi =
+round-closest : (f : Format) (N D : ℕ) → 0 < D → 2 ^ (prec f - 1) * D ≤ N → N < 2 ^ prec f * D → HasValue (round f false N D) false (closest N D) 1
+round-closest f N D P lo hi =
     let l = 2 ^ low f in
     let L = pow-pos (low f) in
     let g = closest N D in
-    let n = closest-near N D P in
     let k : drop (prec f) (N * l) D ≡ low f =
     drop-is (prec f) (N * l) D (low f) (two-le-pos (prec f) (two f)) P
     (inr (le-trans (le-of-eq (mul-right-comm (2 ^ (prec f - 1)) l D)) (mul-le-mul-right l lo)))
@@ -51,13 +47,27 @@ round-to-whole f N D P lo hi =
     let e : round f false N D ≡ units f false g (low f) =
     round-is f false N D ∙ ap (λ (z : ℕ). units f false (closest (N * l) (D * 2 ^ z)) z) k
     ∙ ap (λ (z : ℕ). units f false z (low f)) (closest-same (N * l) (D * l) N D (mul-pos P L) P (mul-right-comm N l D ∙ mul-assoc N D l)) in
-    let small : g < 2 ^ suc (emax f) = lt-of-lt-of-le (at-most g (2 ^ prec f) D N P (n .1) hi) (pow-lt (under-top f)) in
+    let small : g < 2 ^ suc (emax f) = lt-of-lt-of-le (at-most g (2 ^ prec f) D N P (closest-near N D P .1) hi) (pow-lt (under-top f)) in
     let fits : g * l < 2 ^ (low f + suc (emax f)) = lt-of-lt-of-le (mul-lt-mul-of-pos-right small L) (le-of-eq (mul-comm (2 ^ suc (emax f)) l ∙ sym (pow-add 2 (low f) (suc (emax f))))) in
-    (g, subst (λ (z : Float). HasValue z false g 1) (sym e) (rescale (units f false g (low f)) false (g * l) l g 1 L (sym (mul-one (g * l))) (units-val f false g (low f) fits)), n .0, n .1)
+    subst (λ (z : Float). HasValue z false g 1) (sym e) (rescale (units f false g (low f)) false (g * l) l g 1 L (sym (mul-one (g * l))) (units-val f false g (low f) fits))
 
 -- ---- a whole number z as W + z, for W = 1.5 * 2 ^ 52
-abbrev W : ℕ
+abbrev pub W : ℕ
 W = 3 * 2 ^ 51
+
+-- The sum with W, of an x that is ±a / c and not below 0, is W and the whole number nearest to x, a half going to the even one: W is even.
+pub sum-nearest : (x : Float) (s : Bool) (a c : ℕ) → 0 < c → HasValue x s a c → (T s → a ≡ 0) → a < 2 ^ 51 * c → HasValue (add binary64 x shift) false (W + closest a c) 1
+unfolding sum
+sum-nearest x s a c C v z h =
+    subst (λ (y : Float). HasValue y false (W + closest a c) 1) (sym (add-of binary64 x shift s a c false W 1 C (zero-lt-suc 0) v (refl, refl) ∙ at s z))
+    (subst (λ (g : ℕ). HasValue (round binary64 false (W * c + a) c) false g 1) (closest-moved W a c C refl) (round-closest binary64 (W * c + a) c C (omega arith) (omega arith)))
+  where
+    summed : (n : ℕ) → n ≡ W * c + a → round binary64 false n (c * 1) ≡ round binary64 false (W * c + a) c
+    summed n e = ap (λ (k : ℕ). round binary64 false k (c * 1)) e ∙ ap (round binary64 false (W * c + a)) (mul-one c)
+
+    at : (s : Bool) → (T s → a ≡ 0) → sum binary64 s (a * 1) false (W * c) (c * 1) ≡ round binary64 false (W * c + a) c
+    at false z = summed (a * 1 + W * c) (omega arith)
+    at true z = let e = z tt in sum-turned binary64 (a * 1) (W * c) (c * 1) (omega arith) ∙ summed (W * c - a * 1) (omega arith)
 
 abbrev Shifted : ℕ → ℤ → Type 0
 Shifted g (pos q) = g ≡ W + q
@@ -266,27 +276,29 @@ near (fin true m e) p q =
     (true, m, e, W * down e - m * up e, refl, omega arith, omega arith, omega arith)
 
 module _ (s : Bool) (m : ℕ) (e : ℤ) (N : ℕ) (k : Moved s (m * up e) (down e) N) (lo : 2 ^ 52 * down e ≤ N) (hi : N < 2 ^ 53 * down e) where
-  -- the sum, rounded to the whole number g
-  r : Rounded binary64 N (down e)
-  r = round-to-whole binary64 N (down e) (down-pos e) lo hi
+  -- the sum is rounded to the whole number G
+  abbrev G : ℕ
+  G = closest N (down e)
 
-  g-le : r .0 ≤ 2 ^ 53
-  g-le = le-of-suc-le-suc (at-most (r .0) (2 ^ 53) (down e) N (down-pos e) (r .3) hi)
+  G-le : G ≤ 2 ^ 53
+  G-le = le-of-suc-le-suc (at-most G (2 ^ 53) (down e) N (down-pos e) (closest-near N (down e) (down-pos e) .1) hi)
 
   unfoldable n : Float
   n = sub binary64 (add binary64 (fin s m e) shift) shift
 
-  n-is : (z : ℤ) → Shifted (r .0) z → n ≡ ofInt binary64 z
+  n-is : (z : ℤ) → Shifted G z → n ≡ ofInt binary64 z
   unfolding n
-  n-is z h = ap (λ (y : Float). sub binary64 y shift) (add-shift s m e N k (lt-of-lt-of-le (mul-pos (pow-pos 52) (down-pos e)) lo)) ∙ take-shift (round binary64 false N (down e)) (r .0) z h (r .1)
+  n-is z h =
+      ap (λ (y : Float). sub binary64 y shift) (add-shift s m e N k (lt-of-lt-of-le (mul-pos (pow-pos 52) (down-pos e)) lo))
+      ∙ take-shift (round binary64 false N (down e)) G z h (round-closest binary64 N (down e) (down-pos e) lo hi)
 
   -- x + 1.5 * 2 ^ 52 in the place of x, and g in that of n
-  tests : (T (lt (fin s m e) n) → N < r .0 * down e) × (T (not (lt (fin s m e) n)) → r .0 * down e ≤ N)
+  tests : (T (lt (fin s m e) n) → N < G * down e) × (T (not (lt (fin s m e) n)) → G * down e ≤ N)
   tests =
-      let z = shifted (r .0) in
-      let v = int-value (z .0) (size-of (r .0) (z .0) (z .1) g-le) in
+      let z = shifted G in
+      let v = int-value (z .0) (size-of G (z .0) (z .1) G-le) in
       let t = ap (lt (fin s m e)) (n-is (z .0) (z .1)) ∙ lt-of (fin s m e) (ofInt binary64 (z .0)) s (m * up e) (down e) (minus (z .0)) (natAbs (z .0)) 1 (down-pos e) (zero-lt-suc 0) (refl, refl) v in
-      let b = below-moved s (m * up e) (down e) N (r .0) (z .0) (down-pos e) k (z .1) in
+      let b = below-moved s (m * up e) (down e) N G (z .0) (down-pos e) k (z .1) in
       (λ (u : T (lt (fin s m e) n)). b .0 (subst T t u), λ (u : T (not (lt (fin s m e) n))). b .1 (subst (λ (w : Bool). T (not w)) t u))
 
   floor-is : ofInt binary64 (floorInt s (m * up e) (down e)) ≡ add binary64 (floorOf binary64 (fin s m e)) (fin false 0 (pos 0))
@@ -300,8 +312,7 @@ module _ (s : Bool) (m : ℕ) (e : ℤ) (N : ℕ) (k : Moved s (m * up e) (down 
   one-less t =
       let l = tests .0 t in
       let P = down-pos e in
-      let G = r .0 in
-      let near = r .3 in
+      let near = closest-near N (down e) P .1 in
       let q = G - 1 in
       let some : 0 < G = first-pos G (down e) (lt-of-le-of-lt zero-le l) in
       let e1 : G ≡ q + 1 = omega arith in
@@ -312,14 +323,13 @@ module _ (s : Bool) (m : ℕ) (e : ℤ) (N : ℕ) (k : Moved s (m * up e) (down 
       let F = floorInt s (m * up e) (down e) in
       let moved : Shifted q F = subst (λ (z : ℕ). Shifted z F) (div-eq-of-lt-le (down e) from under) (floor-moved s (m * up e) (down e) N P k) in
       let up : Shifted G (sucℤ F) = subst (λ (z : ℕ). Shifted z (sucℤ F)) (sym (e1 ∙ add-one q)) (up-one q F moved) in
-      ap (λ (y : Float). sub binary64 y (fin false 1 (pos 0))) (n-is (sucℤ F) up) ∙ less-one F (size-of G (sucℤ F) up g-le) ∙ floor-is
+      ap (λ (y : Float). sub binary64 y (fin false 1 (pos 0))) (n-is (sucℤ F) up) ∙ less-one F (size-of G (sucℤ F) up G-le) ∙ floor-is
 
   itself : T (not (lt (fin s m e) n)) → n ≡ add binary64 (floorOf binary64 (fin s m e)) (fin false 0 (pos 0))
   itself t =
       let from = tests .1 t in
       let P = down-pos e in
-      let G = r .0 in
-      let near = r .2 in
+      let near = closest-near N (down e) P .0 in
       let e3 : (G + 1) * down e ≡ G * down e + 1 * down e = add-mul G 1 (down e) in
       let under : N < (G + 1) * down e = omega arith in
       let F = floorInt s (m * up e) (down e) in

@@ -2,7 +2,7 @@
 use mathlib.Core.Path.{_≡_, sym, ap, _∙_, subst}
 use mathlib.Core.Logic.{_⊎_, inl, inr}
 use Prim.Native.Nat.{ℕ, zero, suc, _+_, _-_, _*_, _/_, _%_, _^_, _≤_, _<_, compare, Ordering, Ordering·lt, Ordering·eq, Ordering·gt}
-use native.Mathlib.Nat.{le-trans, le-of-eq, le-antisymm, lt-of-lt-of-le, lt-irrefl, lt-of-not-le, le-of-suc-le-suc, eq-zero-or-pos, mod-lt, div-add-mod', mul-comm, mul-assoc, add-mul, suc-mul, mul-le-mul-right, mul-pos, div-div-eq-div-mul, le-div-iff-mul-le, div-lt-iff-lt-mul}
+use native.Mathlib.Nat.{le-trans, le-of-eq, le-antisymm, lt-of-lt-of-le, lt-irrefl, lt-of-not-le, le-of-suc-le-suc, eq-zero-or-pos, mod-lt, div-add-mod', mul-comm, mul-assoc, add-mul, suc-mul, mul-le-mul-right, mul-pos, mul-add-div-right, div-div-eq-div-mul, le-div-iff-mul-le, div-lt-iff-lt-mul}
 use native.Mathlib.Omega.{arith}
 use mathlib.Core.Bool.{Bool, not}
 use lib.Dec.{T, isLe, isEq, eqb, leb→le, nleb→lt, eqb→eq, eqb-refl}
@@ -61,6 +61,26 @@ closest-is n u q U a b =
     let c = closest-near n u U in
     le-antisymm (le-of-suc-le-suc (lt-of-not-le (λ (g : suc q ≤ closest n u). apart' (closest n u) q u n g (c .1) b)))
     (le-of-suc-le-suc (lt-of-not-le (λ (g : suc (closest n u) ≤ q). apart (closest n u) q u n g (c .0) a)))
+
+-- ---- moved by an even number, which keeps a half even
+nearest-moved : (w q : ℕ) (o : Ordering) → w % 2 ≡ 0 → nearest (w + q) o ≡ w + nearest q o
+nearest-moved w q Ordering·lt h = omega arith
+nearest-moved w q Ordering·eq h = omega arith
+nearest-moved w q Ordering·gt h = omega arith
+
+rest-moved : (w n u : ℕ) → 0 < u → (w * u + n) % u ≡ n % u
+rest-moved w n u U =
+    let d = mul-add-div-right U w n in
+    let e : (w + n / u) * u + (w * u + n) % u ≡ w * u + n = ap (λ (q : ℕ). q * u + (w * u + n) % u) (sym d) ∙ div-add-mod' (w * u + n) u in
+    let f = div-add-mod' n u in
+    let g = add-mul w (n / u) u in
+    omega arith
+
+pub closest-moved : (w n u : ℕ) → 0 < u → w % 2 ≡ 0 → closest (w * u + n) u ≡ w + closest n u
+closest-moved w n u U h =
+    ap (λ (q : ℕ). nearest q (compare ((w * u + n) % u * 2) u)) (mul-add-div-right U w n)
+    ∙ ap (λ (r : ℕ). nearest (w + n / u) (compare (r * 2) u)) (rest-moved w n u U)
+    ∙ nearest-moved w (n / u) (compare (n % u * 2) u) h
 
 -- ---- `round`: of n / den in units of the smallest value, `drop` digits are dropped
 all-in-use : (z p : ℕ) → 0 < p → 0 < z - p → p - 1 + (z - p) < z

@@ -1,21 +1,18 @@
 -- The laws of extents that other crates cite. Assumes nothing.
 use mathlib.Core.Path.{_≡_, refl, subst}
-use Prim.Native.Nat.{ℕ, _+_, _*_, _≤_}
+use Prim.Native.Nat.{_≤_}
 use mathlib.Core.Bool.{Bool, true, false, _&&_}
 use mathlib.Core.List.{List, [], _∷_}
 use lib.Dec.{T}
-use lib.IntN.{ℤ, pos}
-use lib.Ieee.{Float, fin, binary64, up, down, round, sum, add, sub, neg, mul, div, lt, le, eq, fits, ofInt}
-use lib.Ieee.Exact.{HasValue}
+use lib.Ieee.{Float, binary64, round, sum, add, sub, neg, mul, div, lt, le, eq, fits, ofInt}
 use lib.Ieee.Fits.{cond-fits, add-fits, and-l, and-r}
 use lib.Ieee.Scale.{finite}
-use Rattle.doubles.specs.Arithmetic.{_⊕_, _⊗_, dec, whole, zero, one}
+use Rattle.doubles.specs.Arithmetic.{dec, zero, one}
 use Rattle.doubles.specs.Range.{between, clampTo}
 use Rattle.extent.specs.declared.Extent.{Extent}
 use Rattle.extent.specs.Extent.{component, quantised, meanOf, Knot, firstKnot, laterKnots, radiusBetween, radiusFrom, radiusOf, meanRadius}
 use Rattle.extent.specs.Kernel.{threshold}
 use Rattle.extent.proofs.radius.Ranges as ranges
-use Rattle.extent.proofs.radius.Product as product
 use Rattle.extent.proofs.radius.Transfer.{byKnots, clamped}
 use Rattle.extent.proofs.RadiusBounds.{knots-radius}
 
@@ -24,14 +21,6 @@ use Rattle.extent.proofs.RadiusBounds.{knots-radius}
 -- from 0 to 1 implies finite
 pub component-is : (v : Float) → between zero one v ≡ component v
 component-is v = ranges.component-is v
-
--- a component times 32768 is exact
-pub product-exact : (s : Bool) (m : ℕ) (e : ℤ) → T (fits binary64 (fin s m e)) → T (between zero one (fin s m e)) → HasValue (fin s m e ⊗ whole (pos 32768)) s (m * up e * 32768) (down e)
-product-exact s m e h b = product.product-exact s m e h b
-
--- so v × 32768 + 0.5 is rounded once: v is m * up e / down e, and the sum is that times 32768 and 1/2
-pub sum-once : (s : Bool) (m : ℕ) (e : ℤ) → T (fits binary64 (fin s m e)) → T (between zero one (fin s m e)) → fin s m e ⊗ whole (pos 32768) ⊕ dec 5 1 ≡ round binary64 false (m * up e * 65536 + down e) (down e * 2)
-sum-once s m e h b = product.sum-once s m e h b
 
 -- ---- means
 

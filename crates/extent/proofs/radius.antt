@@ -1,4 +1,4 @@
-pub mod Cut
+pub mod Nearest
 pub mod Ranges
 pub mod Transfer
 pub mod Product

@@ -1,14 +1,15 @@
 -- Reading an extent: document 01, 'Extent'. Definitions only.
-use Prim.Native.Nat.{ℕ, _+_, _/_, min}
+use Prim.Native.Nat.{ℕ, _+_, _*_, _/_, min}
 use mathlib.Core.Bool.{Bool, _&&_, cond}
 use mathlib.Core.List.{List, [], _∷_}
 use lib.Dec.{eqb}
 use lib.IntN.{pos}
-use lib.Ieee.{Float, binary64, le, toUnsigned}
+use lib.Ieee.{Float, le}
+use lib.Ieee.Nearest.{closest}
+use lib.Ieee.Positive.{num, den}
 use lib.Ieee.Scale.{finite}
 use lib.ListN.{getD}
 use Rattle.doubles.specs.Arithmetic.{_⊕_, _⊖_, _⊗_, _⊘_, dec, whole, zero, one}
-use Rattle.doubles.specs.Floor.{floorOf}
 use Rattle.doubles.specs.Range.{between, clampTo}
 use Rattle.layout.specs.Questions.{Question, firstNo}
 use Rattle.extent.specs.declared.Extent.{Extent}
@@ -39,10 +40,9 @@ extentQuestions e =
     ∷ record { number = 19; yes = question19 e }
     ∷ []
 
--- q = floor(v × 32768 + 0.5), at most 32767. The product is exact, so the sum is rounded once.
+-- q: the whole number nearest to the exact 32768 × v, a half going to the even one, at most 32767. A component v is the fraction num v / den v; any other double has 0.
 unfoldable pub quantised : Float → ℕ
-unfolding floorOf
-quantised v = min (toUnsigned 64 (floorOf binary64 (v ⊗ whole (pos 32768) ⊕ dec 5 1))) 32767
+quantised v = cond (component v) (min (closest (32768 * num v) (den v)) 32767) 0
 
 -- the mean in whole numbers
 abbrev pub meanOf : Extent → ℕ

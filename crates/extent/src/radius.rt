@@ -1,45 +1,33 @@
 // Reading an extent: its mean and its radius.
 ghost use mathlib.Core.Path.{_≡_};
-ghost use Prim.Native.Nat.{_+_, _<_, min};
-ghost use lib.Ieee.{toUnsigned};
+ghost use Prim.Native.Nat.{_+_, _<_};
 ghost use Rattle.layout.specs.Questions.{firstNo};
 ghost use Rattle.extent.specs.Extent.{quantised, meanOf, knotAt, radiusBetween, radiusOf, extentQuestions, readOf};
 use crate::Extent;
 use crate::Reading;
-use doubles::floor;
 use doubles::is_between;
 
 const Q: f64 = 32768.0;
+
+// 1.5 * 2 ^ 52. Between 2 ^ 52 and 2 ^ 53 the doubles are the whole numbers.
+const SHIFT: f64 = 6755399441055744.0;
 
 // The knots of the radius: at E[i] it is S[i].
 const E: [f64; 5] = [0.0, 0.2, 0.5, 0.75, 1.0];
 
 const S: [f64; 5] = [0.0, 0.075, 0.25, 0.45, 0.7];
 
-// q without its fraction, at most 32767; 0 where it is not above 0.
-fn capped(q: f64) -> u64
-    ensures { λ r. ⌜ r ≡ min (toUnsigned 64 q) 32767 ⌝ }
-{
-    if q >= 32767.0 {
-        32767
-    } else if q > 0.0 {
-        std::num::truncating_f64_to_u64(q)
-    } else {
-        0
-    }
-}
-
-// floor(v * 32768 + 0.5), at most 32767. The product is exact, so the sum is rounded once. A sum above 0
-// needs no floor: its fraction is dropped.
+// The whole number nearest to 32768 * v, a half to the even one, at most 32767; 0 for a v that is not from
+// 0 to 1. The product is exact, and its sum with SHIFT is rounded to a whole number, whose lowest 16 digits
+// are those of the nearest one.
 fn quantise(v: f64) -> u64
     ensures { λ r. ⌜ r ≡ quantised v ⌝ }
 {
-    let s = v * Q + 0.5;
-    if (s > 0.0) & (s < 32767.0) {
-        std::num::truncating_f64_to_u64(s)
-    } else {
-        capped(floor(s))
+    if !is_between(0.0, 1.0, v) {
+        return 0;
     }
+    let q = f64::to_bits(v * Q + SHIFT) % 65536;
+    if q < 32767 { q } else { 32767 }
 }
 
 // The radius between knot i and the next.

@@ -1,5 +1,6 @@
 //! The original's extent.rs and region.rs with document 01's stand-ins, and the types that they use.
 pub mod bench;
+pub mod halves;
 pub mod random;
 pub mod rooms;
 pub mod standins;

@@ -1,27 +1,27 @@
 -- What the proof of `power_near` cites: the sum of n and 2 ^ 52 + 1023 has the biased exponent of 2 ^ n in its lowest bits. Assumes nothing.
 use mathlib.Core.Path.{_≡_, refl, sym, ap, _∙_, subst}
-use Prim.Native.Nat.{ℕ, suc, _+_, _-_, _*_, _/_, _%_, _^_, _≤_, _<_}
-use native.Mathlib.Nat.{lt-of-lt-of-le, lt-of-le-of-lt, zero-lt-suc, mul-one, mod-eq-of-lt, add-mul-mod-self-right}
+use Prim.Native.Nat.{ℕ, suc, _+_, _-_, _*_, _%_, _^_, _≤_, _<_}
+use native.Mathlib.Nat.{lt-of-lt-of-le, lt-of-le-of-lt, zero-lt-suc, add-mul-mod-self-right}
 use native.Mathlib.Omega.{arith}
-use mathlib.Core.Bool.{Bool, true, false, not}
+use mathlib.Core.Bool.{true, false, not}
 use lib.IntN.{ℤ, pos, negsuc, natAbs, _+ℤ_}
 use lib.Signed.{leZ, ltZ}
-use lib.Arith.{le→nltb, digits-div, digits-mod}
+use lib.Arith.{le→nltb}
 use lib.Dec.{T, ltb, leb→le, le→leb, lt→ltb, lit≤, lit<}
-use lib.Pow.{pow-pos}
-use lib.Ieee.{Float, fin, binary64, round, sum, add, fits, isNan, ofInt, toSigned, inFloat, ofFields, ofBits, toBits, nanBits}
+use lib.Ieee.{Float, fin, binary64, round, sum, add, isNan, ofInt, toSigned, inFloat, ofBits, toBits, nanBits}
 use lib.Ieee.Fits.{add-fits}
-use lib.Ieee.Bits.{is-true, is-false, cond-no, ofBits-fits, toBits-ofBits, nanBits-is}
-use lib.Ieee.Exact.{HasValue, odd-sign}
-use lib.Ieee.Back.{round-whole, whole-unique, positive-back, negative-back}
+use lib.Ieee.Bits.{is-true, is-false, cond-no}
+use lib.Ieee.Exact.{HasValue}
+use lib.Ieee.Back.{round-whole, positive-back, negative-back}
 use mir.Syntax.{w64}
 use mir.Val.{SFits, toZ, ofZ}
 use mir.ValLaws.{toZ-ofZ}
 use Rattle.doubles.specs.Power.{pow2Of}
 use Rattle.approximations.specs.Exp2.{NormalExponent}
-use Rattle.doubles.proofs.Fractions.{rescale, add-of, sum-turned}
-use Rattle.doubles.proofs.PowersOfTwo.{ofBits-is, under-63, not-nan, middle, Placed, middle-placed}
+use Rattle.doubles.proofs.Fractions.{add-of, sum-turned}
+use Rattle.doubles.proofs.PowersOfTwo.{middle, Placed, middle-placed}
 use Rattle.doubles.proofs.NearestWhole.{minus, int-value}
+use Rattle.doubles.proofs.WholePatterns.{whole-bits}
 
 abbrev pub bias : Float
 bias = fin false 4503599627371519 (pos 0)
@@ -30,30 +30,6 @@ bias = fin false 4503599627371519 (pos 0)
 abbrev field : ℤ → ℕ
 field (pos q) = q + 1023
 field (negsuc k) = 1022 - k
-
--- ---- a pattern with the exponent's field 1075 and the digits j is 2 ^ 52 + j
-pattern-fields : (j : ℕ) → HasValue (ofFields binary64 false 1075 j) false ((2 ^ 52 + j) * 2 ^ 1074) (2 ^ 1074)
-unfolding ofFields
-pattern-fields j = odd-sign 53 false (2 ^ 52 + j) 1074 1074
-
-pattern-value : (j : ℕ) → j < 2 ^ 52 → HasValue (ofBits binary64 (1075 * 2 ^ 52 + j)) false (2 ^ 52 + j) 1
-pattern-value j h =
-    let b = 1075 * 2 ^ 52 + j in
-    let L : b < 2 ^ 63 = omega arith in
-    let f : b % 2 ^ 63 / 2 ^ 52 ≡ 1075 = ap (λ (z : ℕ). z / 2 ^ 52) (mod-eq-of-lt L) ∙ digits-div 1075 h in
-    rescale (ofBits binary64 b) false ((2 ^ 52 + j) * 2 ^ 1074) (2 ^ 1074) (2 ^ 52 + j) 1 (pow-pos 1074) (sym (mul-one ((2 ^ 52 + j) * 2 ^ 1074)))
-    (subst (λ (z : Float). HasValue z false ((2 ^ 52 + j) * 2 ^ 1074) (2 ^ 1074))
-    (sym (ofBits-is b ∙ ap (λ (s : Bool). ofFields binary64 s (b % 2 ^ 63 / 2 ^ 52) (b % 2 ^ 52)) (under-63 b L) ∙ ap (λ (z : ℕ). ofFields binary64 false z (b % 2 ^ 52)) f ∙ ap (λ (z : ℕ). ofFields binary64 false 1075 z) (digits-mod 1075 h)))
-    (pattern-fields j))
-
--- so a value that is 2 ^ 52 + j has that pattern
-bits-of : (y : Float) (j : ℕ) → j < 2 ^ 52 → T (fits binary64 y) → HasValue y false (2 ^ 52 + j) 1 → (toBits binary64 y ≡ 1075 * 2 ^ 52 + j) × T (not (isNan y))
-bits-of y j h F v =
-    let b = 1075 * 2 ^ 52 + j in
-    let w = pattern-value j h in
-    let e = whole-unique binary64 y (ofBits binary64 b) false (2 ^ 52 + j) F (ofBits-fits binary64 b) v w in
-    let n : T (not (isNan (ofBits binary64 b))) = subst (λ (z : Bool). T (not z)) (nanBits-is binary64 b) (not-nan b (2 ^ 52 + j) 1 w) in
-    (ap (toBits binary64) e ∙ toBits-ofBits binary64 b (omega arith) n, subst (λ (z : Float). T (not (isNan z))) (sym e) n)
 
 -- ---- a whole number z from -1022 to 1022
 module _ (z : ℤ) (lo : T (leZ (negsuc 1021) z)) (hi : T (leZ z (pos 1022))) where
@@ -96,7 +72,7 @@ module _ (z : ℤ) (lo : T (leZ (negsuc 1021) z)) (hi : T (leZ z (pos 1022))) wh
   sum-bits =
       let h : field z < 2 ^ 52 = lt-of-lt-of-le field-lt (lit≤ tt) in
       let l : 2 ^ 52 + field z ≤ 2 ^ 53 = omega arith in
-      bits-of (add binary64 (ofInt binary64 z) bias) (field z) h (add-fits binary64 (ofInt binary64 z) bias) (subst (λ (y : Float). HasValue y false (2 ^ 52 + field z) 1) (sym sum-is) (round-whole binary64 false (2 ^ 52 + field z) l))
+      whole-bits (add binary64 (ofInt binary64 z) bias) (field z) h (add-fits binary64 (ofInt binary64 z) bias) (subst (λ (y : Float). HasValue y false (2 ^ 52 + field z) 1) (sym sum-is) (round-whole binary64 false (2 ^ 52 + field z) l))
 
   -- the shift leaves the field
   shifted : toBits binary64 (add binary64 (ofInt binary64 z) bias) * 2 ^ 52 % 2 ^ 64 ≡ field z * 2 ^ 52 % 2 ^ 64

@@ -1,8 +1,8 @@
 -- A component by the code's test, and that a mean is at most 32767. Assumes nothing.
 use mathlib.Core.Path.{_≡_, refl}
-use Prim.Native.Nat.{_≤_}
+use Prim.Native.Nat.{ℕ, _+_, _/_, _≤_, min}
 use native.Mathlib.Omega.{arith}
-use mathlib.Core.Bool.{true, false}
+use mathlib.Core.Bool.{Bool, true, false, cond}
 use lib.Ieee.{Float, nan, inf, fin, lt, le, eq}
 use Rattle.doubles.specs.Arithmetic.{zero, one}
 use Rattle.doubles.specs.Range.{between}
@@ -19,11 +19,14 @@ component-is (fin s m e) = refl
 
 pub quantised-le : (v : Float) → quantised v ≤ 32767
 unfolding quantised
-quantised-le v = omega arith
+quantised-le v = at (component v) _
+  where
+    at : (b : Bool) (q : ℕ) → cond b (min q 32767) 0 ≤ 32767
+    at true q = omega arith
+    at false q = omega arith
 
 pub mean-le : (e : Extent) → meanOf e ≤ 32767
-mean-le e =
-    let x = quantised-le (e .x) in
-    let y = quantised-le (e .y) in
-    let z = quantised-le (e .z) in
-    omega arith
+mean-le e = third (quantised-le _) (quantised-le _) (quantised-le _)
+  where
+    third : {x y z : ℕ} → x ≤ 32767 → y ≤ 32767 → z ≤ 32767 → (x + y + z) / 3 ≤ 32767
+    third a b c = omega arith

@@ -1,40 +1,53 @@
--- `extent::radius::quantise` meets its contract, by the cases of `proofs/radius/Cut.antt`. Assumes nothing.
-use mathlib.Core.Path.{_≡_, refl, ap, _∙_}
+-- `extent::radius::quantise` meets its contract, by `proofs/radius/Nearest.antt`. Assumes nothing.
+use mathlib.Core.Path.{_≡_, sym, _∙_, subst}
+use native.Mathlib.Omega.{arith}
+use mathlib.Core.Bool.{true, false}
 use borrow.Author.Needs.{needs}
+use borrow.Author.Tests.{not-true, not-false}
 use lib.Dec.{T}
-use lib.Ieee.{Float, binary64, add, mul, ofBits, round, ofInt}
-use Rattle.doubles.specs.Floor.{floorOf}
-use Rattle.extent.specs.Extent.{quantised}
+use lib.Ieee.{binary64, fits, round, ofInt, ofBits}
+use Rattle.doubles.specs.Arithmetic.{zero, one}
+use Rattle.doubles.specs.Range.{between}
 use Rattle.extent.proofs.Tests.{yes}
-use Rattle.extent.proofs.radius.Cut.{cut, Below, part-cut, part-asks}
+use Rattle.extent.proofs.radius.Nearest.{Shows, component-shows, quantised-in, quantised-out}
 use Rattle.extent.proofs.radius.quantise.Statement.{statement}
 use Rattle.extent.proofs.radius.quantise.Tie as tie
 
--- the sum
-abbrev s : tie.Start → Float
-s c = add binary64 (mul binary64 (c .args .v) (ofBits binary64 4674736413210574848)) (ofBits binary64 4602678819172646912)
+-- v is a double
+held : (c : tie.Start) → T (fits binary64 (c .args .v))
+held c = subst T (sym (c .good .0 .1)) tt
 
--- its floor, cut
-cut-is : (c : tie.Start) → cut (floorOf binary64 (s c)) ≡ quantised (c .args .v)
-unfolding quantised ofBits round ofInt
-cut-is c = refl
-
-small : (c : tie.Then1) → T (Below (s (c .before)))
+-- not left by the test: v is from 0 to 1
+inside : (c : tie.Else1) → between zero one (c .before .before .args .v) ≡ true
 unfolding ofBits
-small c = yes (c .if1 .taken)
+inside c = sym (c .before .is-between .ensures) ∙ not-false _ (c .if1 .left)
 
-truncating-f64-to-u64-requires : tie.Need-truncating-f64-to-u64-requires
-truncating-f64-to-u64-requires c κs = part-asks (s (c .before)) (small c)
+shows : (c : tie.Else1) → Shows (c .before .before .args .v)
+shows c = component-shows (c .before .before .args .v) (held (c .before .before)) (yes (inside c))
 
 returns : tie.Need-returns
-returns c =
-    let t = c .before in
-    c .truncating-f64-to-u64 .ensures ∙ part-cut (s (t .before)) (small t) ∙ cut-is (t .before)
+unfolding ofBits
+returns c = sym (quantised-out (c .before .before .args .v) (sym (c .before .is-between .ensures) ∙ not-true _ (c .if1 .taken)))
+
+float-to-bits-q : tie.Need-float-to-bits-q
+unfolding ofBits round ofInt
+float-to-bits-q c = shows c .0
 
 returns-2 : tie.Need-returns-2
+unfolding ofBits round ofInt
 returns-2 c =
-    let f = c .before in
-    c .capped .ensures ∙ ap cut (f .floor .ensures) ∙ cut-is (f .before .before)
+    let t = c .before in
+    let q = shows t .1 in
+    let i = quantised-in (t .before .before .args .v) (inside t) in
+    omega arith
+
+returns-3 : tie.Need-returns-3
+unfolding ofBits round ofInt
+returns-3 c =
+    let t = c .before in
+    let q = shows t .1 in
+    let i = quantised-in (t .before .before .args .v) (inside t) in
+    omega arith
 
 pub quantise-spec : {M : Type 1} → statement M
-quantise-spec = tie.close (tie.spec truncating-f64-to-u64-requires (λ c κs. search needs) (λ c κs. search needs) returns returns-2)
+quantise-spec = tie.close (tie.spec (λ c κs. search needs) returns float-to-bits-q returns-2 returns-3)
