@@ -1,4 +1,4 @@
--- What the proof of `floor_near` cites: a sum with 1.5 * 2 ^ 52 is rounded to the nearest whole number, and the floor is that number or one less. Assumes nothing.
+-- A sum with 1.5 * 2 ^ 52 is rounded to the nearest whole number, a half going to the even one; and what the proof of `floor_near` cites: the floor is that number or one less. Assumes nothing.
 use mathlib.Core.Path.{_≡_, refl, sym, ap, _∙_, subst}
 use Prim.Native.Nat.{ℕ, zero, suc, _+_, _-_, _*_, _/_, _^_, _≤_, _<_, zero-le}
 use native.Mathlib.Nat.{le-trans, le-of-eq, le-of-suc-le-suc, le-of-lt, lt-of-lt-of-le, lt-of-le-of-lt, zero-lt-suc, zero-mul, mul-one, add-mul, mul-assoc, mul-comm, mul-right-comm, mul-pos, mul-le-mul-right, mul-lt-mul-of-pos-right, lt-of-mul-lt-mul-right, div-eq-of-lt-le, mul-add-div-right, le-div-iff-mul-le, div-lt-iff-lt-mul, div-mul-le-self, lt-div-mul-add, add-zero}
@@ -52,15 +52,16 @@ round-closest f N D P lo hi =
     subst (λ (z : Float). HasValue z false g 1) (sym e) (rescale (units f false g (low f)) false (g * l) l g 1 L (sym (mul-one (g * l))) (units-val f false g (low f) fits))
 
 -- ---- a whole number z as W + z, for W = 1.5 * 2 ^ 52
-abbrev pub W : ℕ
+abbrev W : ℕ
 W = 3 * 2 ^ 51
 
--- The sum with W, of an x that is ±a / c and not below 0, is W and the whole number nearest to x, a half going to the even one: W is even.
-pub sum-nearest : (x : Float) (s : Bool) (a c : ℕ) → 0 < c → HasValue x s a c → (T s → a ≡ 0) → a < 2 ^ 51 * c → HasValue (add binary64 x shift) false (W + closest a c) 1
+-- The sum with W, of an x that is a / c, +0 or -0 included, is W and the whole number nearest to x, a half going to the even one: W is even. It is 2 ^ 52 and that number's digits.
+pub sum-nearest : (x : Float) (s : Bool) (a c : ℕ) → 0 < c → HasValue x s a c → (T s → a ≡ 0) → a < 2 ^ 51 * c → HasValue (add binary64 x shift) false (2 ^ 52 + (2 ^ 51 + closest a c)) 1
 unfolding sum
 sum-nearest x s a c C v z h =
-    subst (λ (y : Float). HasValue y false (W + closest a c) 1) (sym (add-of binary64 x shift s a c false W 1 C (zero-lt-suc 0) v (refl, refl) ∙ at s z))
-    (subst (λ (g : ℕ). HasValue (round binary64 false (W * c + a) c) false g 1) (closest-moved W a c C refl) (round-closest binary64 (W * c + a) c C (omega arith) (omega arith)))
+    let w : W + closest a c ≡ 2 ^ 52 + (2 ^ 51 + closest a c) = omega arith in
+    subst (λ (y : Float). HasValue y false (2 ^ 52 + (2 ^ 51 + closest a c)) 1) (sym (add-of binary64 x shift s a c false W 1 C (zero-lt-suc 0) v (refl, refl) ∙ at s z))
+    (subst (λ (g : ℕ). HasValue (round binary64 false (W * c + a) c) false g 1) (closest-moved W a c C refl ∙ w) (round-closest binary64 (W * c + a) c C (omega arith) (omega arith)))
   where
     summed : (n : ℕ) → n ≡ W * c + a → round binary64 false n (c * 1) ≡ round binary64 false (W * c + a) c
     summed n e = ap (λ (k : ℕ). round binary64 false k (c * 1)) e ∙ ap (round binary64 false (W * c + a)) (mul-one c)

@@ -17,9 +17,9 @@ const E: [f64; 5] = [0.0, 0.2, 0.5, 0.75, 1.0];
 
 const S: [f64; 5] = [0.0, 0.075, 0.25, 0.45, 0.7];
 
-// The whole number nearest to 32768 * v, a half to the even one, at most 32767; 0 for a v that is not from
-// 0 to 1. The product is exact, and its sum with SHIFT is rounded to a whole number, whose lowest 16 digits
-// are those of the nearest one.
+// The whole number nearest to 32768 * v, a half going to the even one, at most 32767; 0 for a v that is not
+// from 0 to 1. The product is exact, and its sum with SHIFT is rounded to a whole number, whose lowest 16
+// digits are the one wanted.
 fn quantise(v: f64) -> u64
     ensures { λ r. ⌜ r ≡ quantised v ⌝ }
 {

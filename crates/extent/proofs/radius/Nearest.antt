@@ -1,13 +1,12 @@
 -- What the proof of `quantise` cites: the lowest 16 digits of the pattern of v * 32768 + 1.5 * 2 ^ 52 are the whole number nearest to v * 32768. Assumes nothing.
-use mathlib.Core.Path.{_≡_, refl, sym, ap, _∙_, subst}
-use Prim.Native.Nat.{ℕ, _+_, _*_, _%_, _^_, _≤_, _<_, min}
+use mathlib.Core.Path.{_≡_, sym, ap, _∙_}
+use Prim.Native.Nat.{ℕ, _+_, _*_, _%_, _^_, _≤_, min}
 use native.Mathlib.Nat.{lt-irrefl, lt-of-not-le, le-of-suc-le-suc, mul-le-mul-right}
 use native.Mathlib.Omega.{arith}
 use mathlib.Core.Bool.{Bool, true, false, not, cond}
 use lib.IntN.{ℤ, pos}
 use lib.Dec.{T}
 use lib.Ieee.{Float, nan, inf, fin, binary64, up, down, lt, le, eq, fits, isNan, toBits}
-use lib.Ieee.Exact.{HasValue}
 use lib.Ieee.Fits.{down-pos, add-fits}
 use lib.Ieee.Nearest.{closest}
 use lib.Ieee.Positive.{num, den}
@@ -15,10 +14,10 @@ use Rattle.doubles.specs.Arithmetic.{_⊕_, _⊗_, whole, one}
 use Rattle.doubles.specs.Arithmetic.{zero as zero64}
 use Rattle.doubles.specs.Floor.{shift}
 use Rattle.doubles.specs.Range.{between}
-use Rattle.doubles.proofs.NearestWhole.{W, sum-nearest}
+use Rattle.doubles.proofs.NearestWhole.{sum-nearest}
 use Rattle.doubles.proofs.Rounding.{closest-near}
 use Rattle.doubles.proofs.WholePatterns.{whole-bits}
-use Rattle.extent.specs.Extent.{component, quantised}
+use Rattle.extent.specs.Extent.{quantised}
 use Rattle.extent.proofs.radius.Product.{minus-zero, at-most-one, product-exact}
 use Rattle.extent.proofs.radius.Ranges.{component-is}
 
@@ -30,7 +29,7 @@ nearestWhole v = closest (32768 * num v) (den v)
 abbrev shifted : Float → Float
 shifted v = v ⊗ whole (pos 32768) ⊕ shift
 
--- it has a pattern of its own, whose lowest digits are that number
+-- it is no NaN, and the lowest digits of its pattern are that number
 abbrev pub Shows : Float → Type 0
 Shows v = T (not (isNan (shifted v))) × (toBits binary64 (shifted v) % 65536 ≡ nearestWhole v)
 
@@ -48,6 +47,7 @@ module _ (s : Bool) (m : ℕ) (e : ℤ) (h : T (fits binary64 (fin s m e))) (b :
       let n = closest-near (32768 * (m * up e)) (down e) D .1 in
       le-of-suc-le-suc (lt-of-not-le (λ (g : 32769 ≤ nearestWhole v). let l = mul-le-mul-right (down e) g in lt-irrefl 0 (omega arith)))
 
+  -- where the sign is set, v is -0
   none : (s : Bool) → T (between zero64 one (fin s m e)) → T s → 32768 * (m * up e) ≡ 0
   none true b t = let z = minus-zero m e b in omega arith
   none false b t = absurd t
@@ -58,8 +58,7 @@ module _ (s : Bool) (m : ℕ) (e : ℤ) (h : T (fits binary64 (fin s m e))) (b :
       let D = down-pos e in
       let l = nearest-whole-le in
       let x = sum-nearest (v ⊗ whole (pos 32768)) s (32768 * (m * up e)) (down e) D (product-exact s m e h b) (none s b) (omega arith) in
-      let w : W + nearestWhole v ≡ 2 ^ 52 + (2 ^ 51 + nearestWhole v) = omega arith in
-      let p = whole-bits (shifted v) (2 ^ 51 + nearestWhole v) (omega arith) (add-fits binary64 (v ⊗ whole (pos 32768)) shift) (subst (λ (n : ℕ). HasValue (shifted v) false n 1) w x) in
+      let p = whole-bits (shifted v) (2 ^ 51 + nearestWhole v) (omega arith) (add-fits binary64 (v ⊗ whole (pos 32768)) shift) x in
       (p .1, lowest _ (nearestWhole v) l (p .0))
 
 pub component-shows : (v : Float) → T (fits binary64 v) → T (between zero64 one v) → Shows v

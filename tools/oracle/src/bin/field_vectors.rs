@@ -1,6 +1,6 @@
 //! Writes the inputs and the answers that crates/field_vectors replays: `field_vectors FOLDER`.
 //! The tables are those of the original's ExtentFieldCache with the stand-ins.
-use oracle::{extent::open, random::Random, rooms, SpatialDescriptor, SpatialLayout};
+use oracle::{extent::open, halves, random::Random, rooms, SpatialDescriptor, SpatialLayout};
 use std::{env, fmt::Write, fs, path::Path};
 
 const PLACE: usize = 35664;
@@ -247,6 +247,20 @@ fn main() {
     s.spread(0.75);
     tables(&mut s, &mut random, &twins, 10);
     projections(&mut s, &mut random, &twins, 8);
+    // components that lie halfway between two whole numbers of 1 / 32768, or next to that
+    for l in [&list[2], &list[5]] {
+        s.layout(l);
+        s.fill(0, l);
+        let field = open::Field::build(l);
+        let n = l.channels.iter().filter(|c| c.enabled && !c.lfe).count();
+        for i in 0..60 {
+            let points: Vec<f64> = (0..n).map(|_| point(&mut random)).collect();
+            let centre = [coordinate(&mut random), coordinate(&mut random), coordinate(&mut random)];
+            let v = halves::near(&mut random);
+            let extent = if i % 2 == 0 { [v; 3] } else { [v, halves::near(&mut random), halves::near(&mut random)] };
+            s.project(0, l, &field, extent, centre, &points);
+        }
+    }
     fs::write(Path::new(&folder).join("stdin"), s.inputs).unwrap();
     fs::write(Path::new(&folder).join("stdout"), s.answers).unwrap();
 }

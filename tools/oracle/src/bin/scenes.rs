@@ -1,7 +1,8 @@
 //! Writes random scene scripts: `scenes SEED COUNT FOLDER` makes COUNT files of about 60 calls each and
 //! tells in how many of them a room has twins. `scenes twins` writes one script of such rooms alone,
-//! under all twelve zone states, and `scenes sliders` one of extents at and past their ends.
-use oracle::{random::Random, rooms, SpatialLayout};
+//! under all twelve zone states, `scenes sliders` one of extents at and past their ends, and `scenes halves`
+//! one of extents whose components lie halfway between two whole numbers of 1 / 32768, or next to that.
+use oracle::{halves, random::Random, rooms, SpatialLayout};
 use std::{
     env, fs,
     io::{self, Write},
@@ -137,7 +138,8 @@ fn coordinate(random: &mut Random) -> f64 {
     }
 }
 
-/// An extent: small ones, whole ones, and such whose radius is near 0.05, 0.125 or a knot's.
+/// An extent: small ones, whole ones, such with components that lie halfway or next to that, and such whose
+/// radius is near 0.05, 0.125 or a knot's.
 fn extent(random: &mut Random) -> [f64; 3] {
     let means = [1, 2, 3, 4, 6553, 6554, 4369, 4370, 4371, 9175, 9362, 10922, 16384, 24576, 24577, 32766, 32767];
     match random.below(8) {
@@ -148,9 +150,9 @@ fn extent(random: &mut Random) -> [f64; 3] {
         2 | 3 => [random.unit(), random.unit(), random.unit()],
         4 => [random.unit() * 0.01, 0.0, -0.0],
         5 => {
-            let half: f64 = 1.0 / 65536.0;
-            let v = one_of(random, &[0.0, -0.0, half, f64::from_bits(half.to_bits() - 1), f64::from_bits(half.to_bits() - 2)]);
-            one_of(random, &[[v, v, v], [v, v, -0.0], [v, 0.0, 0.0], [1.0, v, v]])
+            let v = halves::near(random);
+            let others = [halves::near(random), halves::near(random)];
+            one_of(random, &[[v, v, v], [v, v, -0.0], [v, 0.0, 0.0], [1.0, v, v], [v, others[0], others[1]]])
         }
         6 => std::array::from_fn(|_| one_of(random, &[0.0, 0.1, 0.25, 0.5, 0.75, 1.0])),
         _ => {
@@ -846,12 +848,54 @@ fn sliders() -> Vec<u8> {
     s.text
 }
 
+/// Halves and the doubles next to them: the least ones, where a mean of 0 or of less than 3 keeps the point
+/// gains; those about the radii 0.05 and 0.125 and about the knots; and the greatest. Each as all three components,
+/// and as one, two or three of them with others that are 0, -0 or a whole number of 1 / 32768.
+fn halfway() -> Vec<u8> {
+    let mut s = Script { text: Vec::new(), random: Random(9), now: None, twins: false };
+    let call = Call {
+        draft: Draft::of(&rooms::real()[2]),
+        epoch: 9,
+        extent: [0.0; 3],
+        zones: "TTTTTT".to_owned(),
+        centre: [0.3, 0.6, 0.0],
+        points: vec![0.6, 0.0, 0.8, 0.0, -0.0],
+        slots: 24,
+        store: STORE,
+    };
+    s.line("fresh");
+    // the first mean that is not 0, for which a field is built, is that of the double above 1 / 65536
+    for k in [1, 3, 5, 7, 9, 11, 8737, 8739, 8741, 13105, 13107, 13109, 18725, 32767, 32769, 49151, 49153, 65531, 65533, 65535] {
+        for v in halves::around(k) {
+            s.call(&Call { extent: [v; 3], ..call.clone() });
+            s.line("show");
+        }
+        let [below, half, above] = halves::around(k);
+        let whole = (k / 2) as f64 / 32768.0;
+        for extent in [[half, 0.0, -0.0], [0.0, half, half], [half, whole, above], [below, half, whole], [whole, whole, half]] {
+            s.call(&Call { extent, ..call.clone() });
+        }
+    }
+    // another room, with a layer above, and any halves
+    let draft = Draft::of(&rooms::real()[5]);
+    let n = draft.active();
+    for _ in 0..40 {
+        let points = (0..n).map(|_| point(&mut s.random)).collect();
+        let extent = std::array::from_fn(|_| halves::near(&mut s.random));
+        let centre = std::array::from_fn(|_| coordinate(&mut s.random));
+        s.call(&Call { draft: draft.clone(), extent, centre, points, ..call.clone() });
+    }
+    s.line("show");
+    s.text
+}
+
 fn main() {
     let arguments: Vec<String> = env::args().collect();
     let words: Vec<&str> = arguments.iter().map(String::as_str).collect();
     let one = match words[..] {
         [_, "twins"] => Some(twins()),
         [_, "sliders"] => Some(sliders()),
+        [_, "halves"] => Some(halfway()),
         _ => None,
     };
     if let Some(text) = one {
@@ -859,7 +903,7 @@ fn main() {
         return;
     }
     let [_, seed, count, folder] = words[..] else {
-        panic!("scenes SEED COUNT FOLDER | scenes twins | scenes sliders");
+        panic!("scenes SEED COUNT FOLDER | scenes twins | scenes sliders | scenes halves");
     };
     let (seed, count): (u64, u64) = (seed.parse().unwrap(), count.parse().unwrap());
     let mut with_twins = 0;

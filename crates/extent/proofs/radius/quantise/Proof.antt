@@ -1,7 +1,7 @@
 -- `extent::radius::quantise` meets its contract, by `proofs/radius/Nearest.antt`. Assumes nothing.
 use mathlib.Core.Path.{_≡_, sym, _∙_, subst}
 use native.Mathlib.Omega.{arith}
-use mathlib.Core.Bool.{true, false}
+use mathlib.Core.Bool.{true}
 use borrow.Author.Needs.{needs}
 use borrow.Author.Tests.{not-true, not-false}
 use lib.Dec.{T}
