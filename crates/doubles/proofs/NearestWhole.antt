@@ -55,21 +55,6 @@ round-closest f N D P lo hi =
 abbrev W : ℕ
 W = 3 * 2 ^ 51
 
--- The sum with W, of an x that is a / c, +0 or -0 included, is W and the whole number nearest to x, a half going to the even one: W is even. It is 2 ^ 52 and that number's digits.
-pub sum-nearest : (x : Float) (s : Bool) (a c : ℕ) → 0 < c → HasValue x s a c → (T s → a ≡ 0) → a < 2 ^ 51 * c → HasValue (add binary64 x shift) false (2 ^ 52 + (2 ^ 51 + closest a c)) 1
-unfolding sum
-sum-nearest x s a c C v z h =
-    let w : W + closest a c ≡ 2 ^ 52 + (2 ^ 51 + closest a c) = omega arith in
-    subst (λ (y : Float). HasValue y false (2 ^ 52 + (2 ^ 51 + closest a c)) 1) (sym (add-of binary64 x shift s a c false W 1 C (zero-lt-suc 0) v (refl, refl) ∙ at s z))
-    (subst (λ (g : ℕ). HasValue (round binary64 false (W * c + a) c) false g 1) (closest-moved W a c C refl ∙ w) (round-closest binary64 (W * c + a) c C (omega arith) (omega arith)))
-  where
-    summed : (n : ℕ) → n ≡ W * c + a → round binary64 false n (c * 1) ≡ round binary64 false (W * c + a) c
-    summed n e = ap (λ (k : ℕ). round binary64 false k (c * 1)) e ∙ ap (round binary64 false (W * c + a)) (mul-one c)
-
-    at : (s : Bool) → (T s → a ≡ 0) → sum binary64 s (a * 1) false (W * c) (c * 1) ≡ round binary64 false (W * c + a) c
-    at false z = summed (a * 1 + W * c) (omega arith)
-    at true z = let e = z tt in sum-turned binary64 (a * 1) (W * c) (c * 1) (omega arith) ∙ summed (W * c - a * 1) (omega arith)
-
 abbrev Shifted : ℕ → ℤ → Type 0
 Shifted g (pos q) = g ≡ W + q
 Shifted g (negsuc k) = g + suc k ≡ W
@@ -196,19 +181,29 @@ floor-moved true a D N P h = at ((a + (D - 1)) / D) refl
     at zero e = sym (add-zero (N / D)) ∙ rest zero (most zero e)
     at (suc k) e = rest (suc k) (most (suc k) e)
 
--- the sum with `shift` is the nearest double to N / D
-add-shift : (s : Bool) (m : ℕ) (e : ℤ) (N : ℕ) → Moved s (m * up e) (down e) N → 0 < N → add binary64 (fin s m e) shift ≡ round binary64 false N (down e)
+-- the sum of ±a / D and `shift` is the double nearest to N / D
+add-shift : (x : Float) (s : Bool) (a D N : ℕ) → 0 < D → HasValue x s a D → Moved s a D N → add binary64 x shift ≡ round binary64 false N D
 unfolding sum
-add-shift s m e N h P = add-of binary64 (fin s m e) shift s (m * up e) (down e) false W 1 (down-pos e) (zero-lt-suc 0) (refl, refl) (refl, refl) ∙ at s h
+add-shift x s a D N P v h = add-of binary64 x shift s a D false W 1 P (zero-lt-suc 0) v (refl, refl) ∙ at s h
   where
-    at : (s : Bool) → Moved s (m * up e) (down e) N → sum binary64 s (m * up e * 1) false (W * down e) (down e * 1) ≡ round binary64 false N (down e)
-    at false h =
-        let k : m * up e * 1 + W * down e ≡ N = omega arith in
-        ap (λ (n : ℕ). round binary64 false n (down e * 1)) k ∙ ap (λ (d : ℕ). round binary64 false N d) (mul-one (down e))
-    at true h =
-        let l : m * up e * 1 ≤ W * down e = omega arith in
-        let k : W * down e - m * up e * 1 ≡ N = omega arith in
-        sum-turned binary64 (m * up e * 1) (W * down e) (down e * 1) l ∙ ap (λ (n : ℕ). round binary64 false n (down e * 1)) k ∙ ap (λ (d : ℕ). round binary64 false N d) (mul-one (down e))
+    moved : (n : ℕ) → n ≡ N → round binary64 false n (D * 1) ≡ round binary64 false N D
+    moved n e = ap (λ (k : ℕ). round binary64 false k (D * 1)) e ∙ ap (round binary64 false N) (mul-one D)
+
+    at : (s : Bool) → Moved s a D N → sum binary64 s (a * 1) false (W * D) (D * 1) ≡ round binary64 false N D
+    at false h = moved (a * 1 + W * D) (omega arith)
+    at true h = sum-turned binary64 (a * 1) (W * D) (D * 1) (omega arith) ∙ moved (W * D - a * 1) (omega arith)
+
+-- Of an a / D below 2 ^ 51, or of -0, that is W and the whole number nearest to a / D, a half going to the even one: W is even. It is written as 2 ^ 52 and the digits below.
+pub sum-nearest : (x : Float) (s : Bool) (a D : ℕ) → 0 < D → HasValue x s a D → (T s → a ≡ 0) → a < 2 ^ 51 * D → HasValue (add binary64 x shift) false (2 ^ 52 + (2 ^ 51 + closest a D)) 1
+sum-nearest x s a D P v z h =
+    let N = W * D + a in
+    let w : W + closest a D ≡ 2 ^ 52 + (2 ^ 51 + closest a D) = omega arith in
+    subst (λ (y : Float). HasValue y false (2 ^ 52 + (2 ^ 51 + closest a D)) 1) (sym (add-shift x s a D N P v (at s z)))
+    (subst (λ (g : ℕ). HasValue (round binary64 false N D) false g 1) (closest-moved W a D P refl ∙ w) (round-closest binary64 N D P (omega arith) (omega arith)))
+  where
+    at : (s : Bool) → (T s → a ≡ 0) → Moved s a D (W * D + a)
+    at false z = refl
+    at true z = let e = z tt in omega arith
 
 -- whether ±a / D is below z, by the numbers moved up
 below-moved : (s : Bool) (a D N g : ℕ) (z : ℤ) → 0 < D → Moved s a D N → Shifted g z → (T (below s (a * 1) (minus z) (natAbs z * D)) → N < g * D) × (T (not (below s (a * 1) (minus z) (natAbs z * D))) → g * D ≤ N)
@@ -290,10 +285,10 @@ module _ (s : Bool) (m : ℕ) (e : ℤ) (N : ℕ) (k : Moved s (m * up e) (down 
   n-is : (z : ℤ) → Shifted G z → n ≡ ofInt binary64 z
   unfolding n
   n-is z h =
-      ap (λ (y : Float). sub binary64 y shift) (add-shift s m e N k (lt-of-lt-of-le (mul-pos (pow-pos 52) (down-pos e)) lo))
+      ap (λ (y : Float). sub binary64 y shift) (add-shift (fin s m e) s (m * up e) (down e) N (down-pos e) (refl, refl) k)
       ∙ take-shift (round binary64 false N (down e)) G z h (round-closest binary64 N (down e) (down-pos e) lo hi)
 
-  -- x + 1.5 * 2 ^ 52 in the place of x, and g in that of n
+  -- x + 1.5 * 2 ^ 52 in the place of x, and G in that of n
   tests : (T (lt (fin s m e) n) → N < G * down e) × (T (not (lt (fin s m e) n)) → G * down e ≤ N)
   tests =
       let z = shifted G in
