@@ -9,9 +9,9 @@ use lib.IntN.{pos, negsuc}
 use lib.Dec.{T, eqb·suc-zero, lit≤, T-not}
 use lib.ListN.{drop}
 use lib.Ieee.{Float, nan, inf, fin, binary64, ofBits, round, add, sub, mul, div, sum, neg, le, ofInt, fits}
-use lib.Ieee.Fits.{and-l, and-r, round-fits, cond-fits, sub-fits, mul-fits, div-fits}
+use lib.Ieee.Fits.{and-l, and-r, round-fits, div-fits}
 use lib.Ieee.Scale.{finite}
-use Rattle.doubles.specs.Arithmetic.{_⊖_, _⊗_, one}
+use Rattle.doubles.specs.Arithmetic.{_⊖_, _⊗_, one64}
 use Rattle.doubles.specs.Arithmetic as arithmetic
 use Rattle.approximations.specs.Circular.{oddFactorials, evenFactorials, inverse, series, sineSeries, cosineSeries, H, halfH, L, complementOf, sineOf, cosineOf}
 use Rattle.doubles.proofs.Magnitude.{mag, plain, plain-finite}
@@ -38,21 +38,21 @@ pub tail-falling : (k j : ℕ) (ks : List ℕ) → T (falling (k ∷ j ∷ ks)) 
 tail-falling k j ks t = and-r (plain (inverse k) && le (inverse j) (inverse k)) (falling (j ∷ ks)) t
 
 pub inverse-fits : (k : ℕ) → T (fits binary64 (inverse k))
-inverse-fits k = div-fits binary64 one (ofInt binary64 (pos k))
+inverse-fits k = div-fits binary64 one64 (ofInt binary64 (pos k))
 
 -- what a step takes off
-taken-off : (y t : Float) (k j : ℕ) (ks : List ℕ) → T (falling (k ∷ j ∷ ks)) → UpTo binary64 one y → UpTo binary64 (inverse j) t → UpTo binary64 (inverse k) (y ⊗ t)
+taken-off : (y t : Float) (k j : ℕ) (ks : List ℕ) → T (falling (k ∷ j ∷ ks)) → UpTo binary64 one64 y → UpTo binary64 (inverse j) t → UpTo binary64 (inverse k) (y ⊗ t)
 taken-off y t k j ks w u v =
     let p = head-plain k (j ∷ ks) w in
     mul-up-to binary64 (inverse k) y t (inverse-fits k) p u (up-to-more binary64 (inverse j) (inverse k) t (inverse-fits j) (inverse-fits k) (head-plain j ks (tail-falling k j ks w)) p (next-less k j ks w) v)
 
-pub series-up-to : (y : Float) (k : ℕ) (ks : List ℕ) → T (falling (k ∷ ks)) → UpTo binary64 one y → UpTo binary64 (inverse k) (series y (k ∷ ks))
+pub series-up-to : (y : Float) (k : ℕ) (ks : List ℕ) → T (falling (k ∷ ks)) → UpTo binary64 one64 y → UpTo binary64 (inverse k) (series y (k ∷ ks))
 unfolding series
 series-up-to y k [] t u = up-to-self binary64 (inverse k) (inverse-fits k) t
 series-up-to y k (j ∷ ks) t u =
     rest-up-to binary64 (inverse k) (y ⊗ series y (j ∷ ks)) (inverse-fits k) (head-plain k (j ∷ ks) t) (taken-off y (series y (j ∷ ks)) k j ks t u (series-up-to y j ks (tail-falling k j ks t) u))
 
-pub product-up-to : (y : Float) (k j : ℕ) (ks : List ℕ) → T (falling (k ∷ j ∷ ks)) → UpTo binary64 one y → UpTo binary64 (inverse k) (y ⊗ series y (j ∷ ks))
+pub product-up-to : (y : Float) (k j : ℕ) (ks : List ℕ) → T (falling (k ∷ j ∷ ks)) → UpTo binary64 one64 y → UpTo binary64 (inverse k) (y ⊗ series y (j ∷ ks))
 product-up-to y k j ks t u = taken-off y (series y (j ∷ ks)) k j ks t u (series-up-to y j ks (tail-falling k j ks t) u)
 
 -- the two lists, whose first coefficient is 1
@@ -64,21 +64,21 @@ pub even-falling : T (falling evenFactorials)
 unfolding div ofInt round le
 even-falling = tt
 
-first : inverse 1 ≡ one
+first : inverse 1 ≡ one64
 unfolding div ofInt round
 first = refl
 
-square-up-to : (b : Float) → UpTo binary64 one b → UpTo binary64 one (b ⊗ b)
-square-up-to b u = mul-up-to binary64 one b b (one-fits binary64) tt u u
+square-up-to : (b : Float) → UpTo binary64 one64 b → UpTo binary64 one64 (b ⊗ b)
+square-up-to b u = mul-up-to binary64 one64 b b (one-fits binary64) tt u u
 
-pub series-to-one : (ks : List ℕ) (b : Float) → T (falling (1 ∷ ks)) → UpTo binary64 one b → UpTo binary64 one (series (b ⊗ b) (1 ∷ ks))
+pub series-to-one : (ks : List ℕ) (b : Float) → T (falling (1 ∷ ks)) → UpTo binary64 one64 b → UpTo binary64 one64 (series (b ⊗ b) (1 ∷ ks))
 series-to-one ks b t u = subst (λ (c : Float). UpTo binary64 c (series (b ⊗ b) (1 ∷ ks))) first (series-up-to (b ⊗ b) 1 ks t (square-up-to b u))
 
-pub sine-up-to : (b : Float) → UpTo binary64 one b → UpTo binary64 one (sineSeries b)
+pub sine-up-to : (b : Float) → UpTo binary64 one64 b → UpTo binary64 one64 (sineSeries b)
 unfolding sineSeries
-sine-up-to b u = mul-up-to binary64 one b (series (b ⊗ b) oddFactorials) (one-fits binary64) tt u (series-to-one (drop 1 oddFactorials) b odd-falling u)
+sine-up-to b u = mul-up-to binary64 one64 b (series (b ⊗ b) oddFactorials) (one-fits binary64) tt u (series-to-one (drop 1 oddFactorials) b odd-falling u)
 
-pub cosine-up-to : (b : Float) → UpTo binary64 one b → UpTo binary64 one (cosineSeries b)
+pub cosine-up-to : (b : Float) → UpTo binary64 one64 b → UpTo binary64 one64 (cosineSeries b)
 unfolding cosineSeries
 cosine-up-to b u = series-to-one (drop 1 evenFactorials) b even-falling u
 
@@ -117,7 +117,7 @@ pub largest-fits : T (fits binary64 largestArgument)
 unfolding fits
 largest-fits = tt
 
-largest-to-one : T (le largestArgument one)
+largest-to-one : T (le largestArgument one64)
 unfolding le
 largest-to-one = tt
 
@@ -129,8 +129,8 @@ halfH-and-L : mag binary64 halfH + mag binary64 L ≤ mag binary64 largestArgume
 unfolding round div ofInt ofBits
 halfH-and-L = lit≤ tt
 
-pub to-one : (b : Float) → UpTo binary64 largestArgument b → UpTo binary64 one b
-to-one b u = up-to-more binary64 largestArgument one b largest-fits (one-fits binary64) tt tt largest-to-one u
+pub to-one : (b : Float) → UpTo binary64 largestArgument b → UpTo binary64 one64 b
+to-one b u = up-to-more binary64 largestArgument one64 b largest-fits (one-fits binary64) tt tt largest-to-one u
 
 pub low-up-to : (a : Float) → T (fits binary64 a) → T (plain a) → T (le a halfH) → UpTo binary64 largestArgument a
 low-up-to a h p l = up-to-more binary64 halfH largestArgument a halfH-fits largest-fits halfH-plain tt halfH-to-largest (h, p, l)
@@ -173,7 +173,7 @@ byHalf S C a = cond (le a halfH) (S a) (C (complementOf a))
 module _ (S C : Float → Float) (P : Float → Float → Type 0) where
   pub by-halves : ((a : Float) → T (fits binary64 a) → T (plain a) → T (le a halfH) → P a (S a))
       → ((a : Float) → T (fits binary64 a) → T (plain a) → T (le a H) → T (not (le a halfH)) → P a (C (complementOf a))) → P minusZero (byHalf S C minusZero)
-      → (a : Float) → T (fits binary64 a) → T (le arithmetic.zero a) → T (le a H) → P a (byHalf S C a)
+      → (a : Float) → T (fits binary64 a) → T (le arithmetic.zero64 a) → T (le a H) → P a (byHalf S C a)
   by-halves low high z nan h lo hi = unfold le in absurd lo
   by-halves low high z (inf true) h lo hi = unfold le in absurd lo
   by-halves low high z (inf false) h lo hi = absurd (no-infinity hi)
@@ -190,13 +190,13 @@ module _ (S C : Float → Float) (P : Float → Float → Type 0) where
 
 -- ---- sine and cosine
 abbrev pub ZeroToOne : Float → Type 0
-ZeroToOne r = T (finite r) × T (le arithmetic.zero r) × T (le r one)
+ZeroToOne r = T (finite r) × T (le arithmetic.zero64 r) × T (le r one64)
 
-from-up-to : (x : Float) → UpTo binary64 one x → ZeroToOne x
+from-up-to : (x : Float) → UpTo binary64 one64 x → ZeroToOne x
 from-up-to x u = (plain-finite x (u .1), zero-le-plain x (u .1), u .2)
 
-range : (S C : Float → Float) → ((b : Float) → UpTo binary64 one b → UpTo binary64 one (S b)) → ((b : Float) → UpTo binary64 one b → UpTo binary64 one (C b))
-    → ZeroToOne (byHalf S C minusZero) → (a : Float) → T (fits binary64 a) → T (le arithmetic.zero a) → T (le a H) → ZeroToOne (byHalf S C a)
+range : (S C : Float → Float) → ((b : Float) → UpTo binary64 one64 b → UpTo binary64 one64 (S b)) → ((b : Float) → UpTo binary64 one64 b → UpTo binary64 one64 (C b))
+    → ZeroToOne (byHalf S C minusZero) → (a : Float) → T (fits binary64 a) → T (le arithmetic.zero64 a) → T (le a H) → ZeroToOne (byHalf S C a)
 range S C s c =
     by-halves S C (λ (a r : Float). ZeroToOne r) (λ (a : Float) (h : T (fits binary64 a)) (p : T (plain a)) (l : T (le a halfH)). from-up-to (S a) (s a (to-one a (low-up-to a h p l))))
     (λ (a : Float) (h : T (fits binary64 a)) (p : T (plain a)) (l : T (le a H)) (n : T (not (le a halfH))). from-up-to (C (complementOf a)) (c (complementOf a) (to-one (complementOf a) (complement-up-to a h p l n))))
@@ -209,27 +209,12 @@ cosine-minus-zero : ZeroToOne (cosineOf minusZero)
 unfolding cosineOf cosineSeries series round div ofInt mul sub add sum neg le
 cosine-minus-zero = (tt, tt, tt)
 
-pub sine-range : (a : Float) → T (fits binary64 a) → T (le arithmetic.zero a) → T (le a H) → ZeroToOne (sineOf a)
+pub sine-range : (a : Float) → T (fits binary64 a) → T (le arithmetic.zero64 a) → T (le a H) → ZeroToOne (sineOf a)
 unfolding sineOf
 sine-range = range sineSeries cosineSeries sine-up-to cosine-up-to sine-minus-zero
 
-pub cosine-range : (a : Float) → T (fits binary64 a) → T (le arithmetic.zero a) → T (le a H) → ZeroToOne (cosineOf a)
+pub cosine-range : (a : Float) → T (fits binary64 a) → T (le arithmetic.zero64 a) → T (le a H) → ZeroToOne (cosineOf a)
 unfolding cosineOf
 cosine-range = range cosineSeries sineSeries cosine-up-to sine-up-to cosine-minus-zero
 
 -- ---- they are doubles wherever they are taken
-sine-series-fits : (b : Float) → T (fits binary64 (sineSeries b))
-unfolding sineSeries
-sine-series-fits b = mul-fits binary64 b (series (b ⊗ b) oddFactorials)
-
-cosine-series-fits : (b : Float) → T (fits binary64 (cosineSeries b))
-unfolding cosineSeries series
-cosine-series-fits b = sub-fits binary64 (inverse 1) _
-
-pub sine-fits : (a : Float) → T (fits binary64 (sineOf a))
-unfolding sineOf
-sine-fits a = cond-fits binary64 (le a halfH) (sineSeries a) (cosineSeries (complementOf a)) (sine-series-fits a) (cosine-series-fits (complementOf a))
-
-pub cosine-fits : (a : Float) → T (fits binary64 (cosineOf a))
-unfolding cosineOf
-cosine-fits a = cond-fits binary64 (le a halfH) (cosineSeries a) (sineSeries (complementOf a)) (cosine-series-fits a) (sine-series-fits (complementOf a))

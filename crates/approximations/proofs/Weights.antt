@@ -10,8 +10,7 @@ use lib.Pow.{pow-pos}
 use lib.Ieee.{Float, nan, inf, fin, Format, binary64, low, up, down, round, ofInt, add, mul, div, le, fits}
 use lib.Ieee.Fits.{round-fits, mul-fits, div-fits}
 use lib.Ieee.Order.{round-mono}
-use Rattle.doubles.specs.Arithmetic.{_⊗_, _⊘_, dec, whole, one}
-use Rattle.doubles.specs.Arithmetic.{zero as zero64}
+use Rattle.doubles.specs.Arithmetic.{_⊗_, _⊘_, dec, fromInt, one64, zero64}
 use Rattle.approximations.specs.Circular.{H}
 use Rattle.doubles.proofs.Magnitude.{mag, plain, plain-val, mul-at, div-at}
 use Rattle.doubles.proofs.Signs.{clear, round-clear, add-clear}
@@ -35,7 +34,7 @@ PI-plain = tt
 abbrev twoF : Float
 twoF = fin false 1 (pos 1)
 
-two-is : whole (pos 2) ≡ twoF
+two-is : fromInt (pos 2) ≡ twoF
 unfolding ofInt round
 two-is = refl
 
@@ -69,14 +68,14 @@ half-mono f x y h k p q l =
     rw (half-at f x h p, half-at f y k q) (round-mono f (mag f x * 1) (2 * 2 ^ low f) (mag f y * 1) (2 * 2 ^ low f) L L (mul-le-mul-right (2 * 2 ^ low f) (mul-le-mul-right 1 l)))
 
 -- y times a t up to 1 is no more than y
-less-times : (f : Format) (y t : Float) → T (fits f y) → T (plain y) → UpTo f one t → T (plain (mul f y t)) × (mag f (mul f y t) ≤ mag f y)
+less-times : (f : Format) (y t : Float) → T (fits f y) → T (plain y) → UpTo f one64 t → T (plain (mul f y t)) × (mag f (mul f y t) ≤ mag f y)
 less-times f y t h p u =
     let l = 2 ^ low f in
     let L = pow-pos (low f) in
     let small : mag f y * mag f t * l ≤ mag f y * (l * l) = le-trans (mul-le-mul-right l (mul-le-mul-left (mag f y) (to-one f t (u .0) (u .1) (u .2)))) (le-of-eq (mul-assoc (mag f y) l l)) in
     rw (mul-at f y t (mag f y) l (mag f t) l L L (plain-val f y h p) (plain-val f t (u .0) (u .1))) (round-under-value f (mag f y * mag f t) (l * l) y h p (mul-pos L L) small)
 
-pub angle-range : (t : Float) → UpTo binary64 one t → T (fits binary64 (dec 3141592653589793 15 ⊗ t ⊘ whole (pos 2))) × T (le zero64 (dec 3141592653589793 15 ⊗ t ⊘ whole (pos 2))) × T (le (dec 3141592653589793 15 ⊗ t ⊘ whole (pos 2)) H)
+pub angle-range : (t : Float) → UpTo binary64 one64 t → T (fits binary64 (dec 3141592653589793 15 ⊗ t ⊘ fromInt (pos 2))) × T (le zero64 (dec 3141592653589793 15 ⊗ t ⊘ fromInt (pos 2))) × T (le (dec 3141592653589793 15 ⊗ t ⊘ fromInt (pos 2)) H)
 angle-range t u =
     let x = PI ⊗ t in
     let h = mul-fits binary64 PI t in

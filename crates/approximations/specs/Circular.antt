@@ -5,7 +5,7 @@ use mathlib.Core.List.{List, [], _∷_}
 use lib.Dec.{leb}
 use lib.IntN.{pos}
 use lib.Ieee.{Float, binary64, le, ofBits}
-use Rattle.doubles.specs.Arithmetic.{_⊕_, _⊖_, _⊗_, _⊘_, dec, whole, zero, one}
+use Rattle.doubles.specs.Arithmetic.{_⊕_, _⊖_, _⊗_, _⊘_, dec, fromInt, zero64, one64}
 
 -- 1!, 3! to 15!
 abbrev pub oddFactorials : List ℕ
@@ -17,7 +17,7 @@ evenFactorials = 1 ∷ 2 ∷ 24 ∷ 720 ∷ 40320 ∷ 3628800 ∷ 479001600 ∷ 
 
 -- c: 1 / k, rounded once
 abbrev pub inverse : ℕ → Float
-inverse k = one ⊘ whole (pos k)
+inverse k = one64 ⊘ fromInt (pos k)
 
 -- each entry is at most 2 ^ 53, and so a double
 abbrev pub exact : List ℕ → Bool
@@ -26,7 +26,7 @@ exact (k ∷ ks) = leb k (2 ^ 53) && exact ks
 
 -- c0 - y (c1 - y (c2 ...)), the c being the inverses of a list that is never empty
 unfoldable pub series : Float → List ℕ → Float
-series y [] = zero
+series y [] = zero64
 series y (k ∷ []) = inverse k
 series y (k ∷ j ∷ ks) = inverse k ⊖ y ⊗ series y (j ∷ ks)
 
@@ -45,7 +45,7 @@ abbrev pub H : Float
 H = dec 15707963267948966 16
 
 abbrev pub halfH : Float
-halfH = H ⊘ whole (pos 2)
+halfH = H ⊘ fromInt (pos 2)
 
 -- L: the double with these bits, the one nearest to pi / 2 - H
 abbrev pub L : Float

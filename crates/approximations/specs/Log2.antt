@@ -3,7 +3,7 @@ use mathlib.Core.Bool.{Bool, true, false, _&&_, cond}
 use lib.IntN.{ℤ, pos, negsuc, _+ℤ_}
 use lib.Ieee.{Float, inf, fin, binary64, lt, le}
 use lib.Ieee.Scale.{finite}
-use Rattle.doubles.specs.Arithmetic.{_⊕_, _⊖_, _⊗_, _⊘_, dec, whole, zero}
+use Rattle.doubles.specs.Arithmetic.{_⊕_, _⊖_, _⊗_, _⊘_, dec, fromInt, zero64}
 use Rattle.doubles.specs.Power.{pow2Of, floorLog2}
 
 -- by the mantissa m and the exponent e
@@ -13,11 +13,11 @@ log2By m e = m ⊗ dec 407934570 8 ⊖ dec 269311523 8 ⊖ m ⊗ m ⊗ dec 13862
 -- The exponent z is one more than the floor of the logarithm, so the mantissa is from 1/2 to 1; but from 2 ^ 1023 up the divisor is infinite, and the mantissa 0.
 unfoldable pub log2At : Float → ℤ → Float
 unfolding pow2Of
-log2At v z = log2By (v ⊘ pow2Of binary64 z) (whole z)
+log2At v z = log2By (v ⊘ pow2Of binary64 z) (fromInt z)
 
 unfoldable pub log2Of : Float → Float
 unfolding log2At floorLog2
-log2Of v = cond (finite v && lt zero v) (log2At v (floorLog2 v +ℤ pos 1)) (inf true)
+log2Of v = cond (finite v && lt zero64 v) (log2At v (floorLog2 v +ℤ pos 1)) (inf true)
 
 -- where the mantissa is read off the pattern: from the least normal double, 2 ^ -1022, up, and below 2 ^ 1023
 abbrev pub inNormal : Float → Bool

@@ -4,8 +4,7 @@ ghost use Prim.Native.Nat.{_<_};
 ghost use lib.Dec.{T};
 ghost use lib.ListN.{length};
 ghost use lib.Ieee.{le};
-ghost use Rattle.approximations.specs.Circular.{sineOf, cosineOf, sineSeries, cosineSeries, series, exact};
-ghost use Rattle.approximations.specs.Circular.{halfH, complementOf};
+ghost use Rattle.approximations.specs.Circular.{sineOf, cosineOf, sineSeries, cosineSeries, series, exact, halfH, complementOf};
 
 // 1!, 3! to 15!
 const ODD_FACTORIALS: [u64; 8] = [1, 6, 120, 5040, 362880, 39916800, 6227020800, 1307674368000];

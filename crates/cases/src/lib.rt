@@ -2,10 +2,10 @@
 // whole by one computation.
 ghost use mathlib.Core.Path.{_≡_};
 ghost use mathlib.Core.Bool.{true};
-ghost use Rattle.lists.specs.Lists.{all};
+ghost use Rattle.lists.specs.Lists.{allOf};
 ghost use Rattle.cases.specs.Cases.{cases, holds};
 
 // Each case of the table holds.
 pub fn cases_hold()
-    ensures { λ _. ⌜ all holds cases ≡ true ⌝ }
+    ensures { λ _. ⌜ allOf holds cases ≡ true ⌝ }
 {}

@@ -7,4 +7,4 @@ pub use channels::active_count;
 pub use channels::active_names;
 pub use channels::covered;
 pub use name::is_name;
-pub use places::place_of;
+pub use places::index_of;

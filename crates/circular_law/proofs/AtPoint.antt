@@ -10,7 +10,7 @@ use lib.Pow.{pow-pos}
 use lib.ListN.{drop}
 use lib.Ieee.{Float, binary64, fits, round, div, ofInt}
 use lib.Ieee.Scale.{finite}
-use Rattle.doubles.specs.Arithmetic.{_⊗_, one}
+use Rattle.doubles.specs.Arithmetic.{_⊗_, one64}
 use Rattle.doubles.specs.Distance.{Apart}
 use Rattle.doubles.proofs.Magnitude.{mag, plain, plain-finite}
 use Rattle.doubles.proofs.Order.{mag-mono}
@@ -51,7 +51,7 @@ first-size : mag binary64 (inverse 1) ≤ scale
 unfolding scale div ofInt round
 first-size = lit≤ tt
 
-one-size : mag binary64 one ≤ scale
+one-size : mag binary64 one64 ≤ scale
 unfolding scale
 one-size = lit≤ tt
 
@@ -112,7 +112,7 @@ module _ (b : Float) (p : ℕ) (ub : UpTo binary64 largestArgument b) (near : Ap
       let f = binary64 in
       let r = series (b ⊗ b) oddFactorials in
       let v = series-to-one (drop 1 oddFactorials) b odd-falling (to-one b ub) in
-      let z = mul-up-to f one b r (one-fits f) tt (to-one b ub) v in
-      let m = le-trans (mag-mono f r one (v .0) (one-fits f) (v .1) tt (v .2)) one-size in
+      let z = mul-up-to f one64 b r (one-fits f) tt (to-one b ub) v in
+      let m = le-trans (mag-mono f r one64 (v .0) (one-fits f) (v .1) tt (v .2)) one-size in
       lead scale (mag f b) p (mag f r) (mag f (b ⊗ r)) (side true (p * p) (scale * scale) oddQuotients) (side false (p * p) (scale * scale) oddQuotients) (factorial 25 * (scale * scale) ^ 12) (4 * eighth) (4 * eighth) (53 * eighth) (51 * eighth) near small m
       (on-doubles b r (ub .0) (v .0) (ub .1) (v .1) (plain-finite (b ⊗ r) (z .1)) b-below m) near-inner (fifty-one eighth)

@@ -209,11 +209,11 @@ cosine-minus-zero : WithinCosine minusZero (cosineOf minusZero)
 unfolding cosineOf cosineSeries series round div ofInt mul sub add sum neg le
 cosine-minus-zero = (lit≤ tt, lit≤ tt)
 
-sine-within : (a : Float) → T (fits binary64 a) → T (le arithmetic.zero a) → T (le a H) → WithinSine a (sineOf a)
+sine-within : (a : Float) → T (fits binary64 a) → T (le arithmetic.zero64 a) → T (le a H) → WithinSine a (sineOf a)
 unfolding sineOf
 sine-within = by-halves sineSeries cosineSeries WithinSine sine-low sine-high sine-minus-zero
 
-cosine-within : (a : Float) → T (fits binary64 a) → T (le arithmetic.zero a) → T (le a H) → WithinCosine a (cosineOf a)
+cosine-within : (a : Float) → T (fits binary64 a) → T (le arithmetic.zero64 a) → T (le a H) → WithinCosine a (cosineOf a)
 unfolding cosineOf
 cosine-within = by-halves cosineSeries sineSeries WithinCosine cosine-low cosine-high cosine-minus-zero
 

@@ -10,7 +10,7 @@ use lib.ListN.{length}
 use lib.Ieee.{Float, binary64, round, div, ofInt, fits}
 use lib.Ieee.Fits.{and-l, and-r}
 use lib.Ieee.Scale.{finite}
-use Rattle.doubles.specs.Arithmetic.{_⊖_, _⊗_, one}
+use Rattle.doubles.specs.Arithmetic.{_⊖_, _⊗_, one64}
 use Rattle.doubles.specs.Distance.{Apart}
 use Rattle.doubles.proofs.Magnitude.{mag, plain, plain-finite}
 use Rattle.doubles.proofs.Order.{mag-mono}
@@ -116,7 +116,7 @@ on-doubles : (c y r : Float) → T (fits binary64 c) → T (fits binary64 y) →
 unfolding scale
 on-doubles = near-step binary64 1020 eighth size-is refl
 
-module _ (y : Float) (q v : ℕ) (uy : UpTo binary64 one y) (ly : mag binary64 y < scale) (near : Apart (mag binary64 y * v) (q * scale) (12 * eighth * v)) (small : 25 * q ≤ 16 * v) where
+module _ (y : Float) (q v : ℕ) (uy : UpTo binary64 one64 y) (ly : mag binary64 y < scale) (near : Apart (mag binary64 y * v) (q * scale) (12 * eighth * v)) (small : 25 * q ≤ 16 * v) where
   pub near-series : (F e k : ℕ) (ks : List ℕ) (t : ℕ) (ts : List ℕ) → T (falling (k ∷ ks)) → T (tested F e (k ∷ ks) (t ∷ ts)) → mag binary64 (inverse k) ≤ scale
       → Near scale (mag binary64 (series y (k ∷ ks))) (side true q v (quotients F (k ∷ ks ++ t ∷ ts))) (side false q v (quotients F (k ∷ ks ++ t ∷ ts))) (F * v ^ length (quotients F (ks ++ t ∷ ts))) (error e (k ∷ ks) * eighth)
   unfolding series side

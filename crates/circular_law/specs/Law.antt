@@ -29,7 +29,7 @@ Within r d plus minus whole = Apart ((r * whole + minus * d) * parts) (plus * d 
 
 -- the double r, which is num r / den r, is finite, not negative, and within 1 / parts of (plus - minus) / whole
 abbrev pub Close : Float → ℕ → ℕ → ℕ → Type 0
-Close r plus minus whole = T (finite r) × T (le doubles.zero r) × Within (num r) (den r) plus minus whole
+Close r plus minus whole = T (finite r) × T (le doubles.zero64 r) × Within (num r) (den r) plus minus whole
 
 -- the first 13 terms of sine's series at x = p / q: x - x ^ 3 / 3! + x ^ 5 / 5! - .. + x ^ 25 / 25!
 abbrev pub CloseToSine : Float → ℕ → ℕ → Type 0
@@ -41,4 +41,4 @@ CloseToCosine r p q = Close r (terms 24 p q (0 ∷ 4 ∷ 8 ∷ 12 ∷ 16 ∷ 20 
 
 -- for every double a from 0 to H, -0 included, which is num a / den a
 abbrev pub CircularLaw : Type 0
-CircularLaw = (a : Float) → T (fits binary64 a) → T (le doubles.zero a) → T (le a H) → CloseToSine (sineOf a) (num a) (den a) × CloseToCosine (cosineOf a) (num a) (den a)
+CircularLaw = (a : Float) → T (fits binary64 a) → T (le doubles.zero64 a) → T (le a H) → CloseToSine (sineOf a) (num a) (den a) × CloseToCosine (cosineOf a) (num a) (den a)

@@ -1,16 +1,14 @@
 -- Classes of speakers, by document 01. Definitions only.
 use Prim.Native.Nat.{ℕ, _+_, _*_}
 use mathlib.Core.Bool.{Bool, true, false, cond, _||_, not}
-use mathlib.Core.List.{List, [], _∷_, map}
+use mathlib.Core.List.{List, [], _∷_}
 use lib.Dec.{eqb}
-use Rattle.lists.specs.Lists.{any, elem}
-use Rattle.layout.specs.declared.Layout.{Layout}
-use Rattle.layout.specs.Channels.{channelsOf, channelName}
+use Rattle.lists.specs.Lists.{elem}
 use Rattle.region.specs.declared.RegionHorizontalState.{RegionHorizontalState}
 use Rattle.region.specs.declared.RegionHorizontalState.the-variants.{NoConstraints, BackExcluded, SideExcluded, CentreAndBack, ScreenOnly, SurroundOnly}
-use Rattle.classes.specs.declared.Speaker.{Speaker}
-use Rattle.classes.specs.declared.Bed.{Bed}
-use Rattle.classes.specs.declared.Bed.the-variants.{Kept, Dropped, Unclassed}
+use Rattle.classes.specs.declared.classes.Classes.{Classes}
+use Rattle.classes.specs.declared.BedMatch.{BedMatch}
+use Rattle.classes.specs.declared.BedMatch.the-variants.{Kept, Dropped, Unclassed}
 
 -- ---- the sixteen names, from their letters in ASCII; the first one is the lowest byte
 
@@ -80,15 +78,15 @@ abbrev pub wideNames : List ℕ
 wideNames = name2 L w ∷ name2 R w ∷ []
 
 -- screen, centre, surround, back and side, for a name that has a class
-abbrev pub classedAs : Bool → Bool → Bool → Bool → Bool → Speaker
+abbrev pub classedAs : Bool → Bool → Bool → Bool → Bool → Classes
 classedAs screen centre surround back side = record { classed = true; screen = screen; centre = centre; surround = surround; back = back; side = side }
 
-abbrev pub unclassed : Speaker
+abbrev pub unclassed : Classes
 unclassed = record { classed = false; screen = false; centre = false; surround = false; back = false; side = false }
 
 -- sixteen names have a class, every other name has none; in five-x Ls and Rs are back too, elsewhere Ls Rs SiL SiR Lw Rw are side
-abbrev pub speakerOf : ℕ → Bool → Speaker
-speakerOf n five =
+abbrev pub classesOf : ℕ → Bool → Classes
+classesOf n five =
     cond (elem n frontNames) (classedAs true false false false false)
     (cond (elem n centreNames) (classedAs true true false false false)
     (cond (elem n surroundNames) (classedAs false false true five (not five))
@@ -99,7 +97,7 @@ speakerOf n five =
 
 -- ---- what a horizontal state keeps
 
-abbrev pub keeps : RegionHorizontalState → Speaker → Bool
+abbrev pub keeps : RegionHorizontalState → Classes → Bool
 keeps NoConstraints s = true
 keeps BackExcluded s = not (s .back)
 keeps SideExcluded s = not (s .side)
@@ -107,13 +105,13 @@ keeps CentreAndBack s = s .centre || s .back
 keeps ScreenOnly s = s .screen
 keeps SurroundOnly s = s .surround
 
-abbrev pub bedIf : Bool → Bool → Bed
-bedIf classed kept = cond classed (cond kept Kept Dropped) Unclassed
+abbrev pub bedMatchIf : Bool → Bool → BedMatch
+bedMatchIf classed kept = cond classed (cond kept Kept Dropped) Unclassed
 
-abbrev pub bedOf : RegionHorizontalState → ℕ → Bool → Bed
-bedOf h n five = bedIf (speakerOf n five .classed) (keeps h (speakerOf n five))
+abbrev pub bedOf : RegionHorizontalState → ℕ → Bool → BedMatch
+bedOf h n five = bedMatchIf (classesOf n five .classed) (keeps h (classesOf n five))
 
--- ---- layouts
+-- ---- names by which layouts are told apart
 
 -- BL BR Lb Rb Lw Rw
 abbrev pub notFive : List ℕ
@@ -122,13 +120,5 @@ notFive = name2 B L ∷ name2 B R ∷ name2 L b ∷ name2 R b ∷ name2 L w ∷ 
 abbrev pub outsideFive : ℕ → Bool
 outsideFive n = elem n notFive
 
--- no channel, active or not, is one of those
-abbrev pub fiveX : Layout → Bool
-fiveX l = not (any outsideFive (map channelName (channelsOf l)))
-
 abbrev pub isFLc : ℕ → Bool
 isFLc n = eqb n (name3 F L c)
-
--- a channel is FLc
-abbrev pub is222 : Layout → Bool
-is222 l = any isFLc (map channelName (channelsOf l))

@@ -1,10 +1,7 @@
 // Classes of speakers, and what a horizontal state keeps of them.
 ghost use mathlib.Core.Path.{_≡_};
-ghost use Rattle.classes.specs.Classes.{classedAs, speakerOf, keeps, bedIf, bedOf, outsideFive, fiveX, isFLc, is222};
-use crate::Bed;
-use crate::Speaker;
-use channels::covered;
-use layout::Layout;
+ghost use Rattle.classes.specs.Classes.{classedAs, classesOf, keeps, bedMatchIf, bedOf, outsideFive, isFLc};
+use crate::BedMatch;
 use region::RegionHorizontalState;
 
 // The sixteen names, packed with the first byte lowest.
@@ -40,11 +37,21 @@ const LW: u64 = 0x774c;
 
 const RW: u64 = 0x7752;
 
-// A speaker whose name has a class.
-fn classed(screen: bool, centre: bool, surround: bool, back: bool, side: bool) -> Speaker
+// The classes of a speaker; `classed` is false where its name has none.
+struct Classes {
+    classed: bool,
+    screen: bool,
+    centre: bool,
+    surround: bool,
+    back: bool,
+    side: bool,
+}
+
+// The classes of a speaker whose name has one.
+fn classed(screen: bool, centre: bool, surround: bool, back: bool, side: bool) -> Classes
     ensures { λ r. ⌜ r ≡ classedAs screen centre surround back side ⌝ }
 {
-    Speaker {
+    Classes {
         classed: true,
         screen: screen,
         centre: centre,
@@ -55,8 +62,8 @@ fn classed(screen: bool, centre: bool, surround: bool, back: bool, side: bool) -
 }
 
 // The classes of the speaker of a name.
-fn speaker(name: u64, five: bool) -> Speaker
-    ensures { λ r. ⌜ r ≡ speakerOf name five ⌝ }
+fn classes_of(name: u64, five: bool) -> Classes
+    ensures { λ r. ⌜ r ≡ classesOf name five ⌝ }
 {
     match name {
         FL | FR | FLC | FRC => classed(true, false, false, false, false),
@@ -65,7 +72,7 @@ fn speaker(name: u64, five: bool) -> Speaker
         SIL | SIR => classed(false, false, true, false, !five),
         LB | RB | BL | BR | BC => classed(false, false, false, true, false),
         LW | RW => classed(false, false, false, false, !five),
-        _ => Speaker {
+        _ => Classes {
             classed: false,
             screen: false,
             centre: false,
@@ -77,7 +84,7 @@ fn speaker(name: u64, five: bool) -> Speaker
 }
 
 // Whether a horizontal state keeps a speaker.
-fn is_kept(state: RegionHorizontalState, s: Speaker) -> bool
+fn is_kept(state: RegionHorizontalState, s: Classes) -> bool
     ensures { λ r. ⌜ r ≡ keeps state s ⌝ }
 {
     match state {
@@ -90,22 +97,27 @@ fn is_kept(state: RegionHorizontalState, s: Speaker) -> bool
     }
 }
 
-fn bed_if(classed: bool, kept: bool) -> Bed
-    ensures { λ r. ⌜ r ≡ bedIf classed kept ⌝ }
+// What is done with a speaker by whether its name has a class and whether it is kept.
+fn bed_match_if(classed: bool, kept: bool) -> BedMatch
+    ensures { λ r. ⌜ r ≡ bedMatchIf classed kept ⌝ }
 {
     if classed {
-        if kept { Bed::Kept } else { Bed::Dropped }
+        if kept {
+            BedMatch::Kept
+        } else {
+            BedMatch::Dropped
+        }
     } else {
-        Bed::Unclassed
+        BedMatch::Unclassed
     }
 }
 
 // What a horizontal state does with the speaker of a name.
-pub fn matches_bed_state(state: RegionHorizontalState, name: u64, five: bool) -> Bed
+pub fn matches_bed_state(state: RegionHorizontalState, name: u64, five: bool) -> BedMatch
     ensures { λ r. ⌜ r ≡ bedOf state name five ⌝ }
 {
-    let s = speaker(name, five);
-    bed_if(s.classed, is_kept(state, s))
+    let s = classes_of(name, five);
+    bed_match_if(s.classed, is_kept(state, s))
 }
 
 // Whether a name is one of those that five-x has not.
@@ -118,41 +130,9 @@ pub fn is_outside_five(name: u64) -> bool
     }
 }
 
-// Whether no channel, active or not, has a name that five-x has not.
-pub fn five_x(l: Layout) -> bool
-    ensures { λ r. ⌜ r ≡ fiveX l ⌝ }
-{
-    let used = covered(l.used);
-    let mut i = 0usize;
-    while i < used {
-        let channel = l.channels[i];
-        if is_outside_five(channel.name) {
-            return false;
-        }
-        i += 1;
-    }
-    true
-}
-
 // Whether a name is FLc.
 pub fn is_flc(name: u64) -> bool
     ensures { λ r. ⌜ r ≡ isFLc name ⌝ }
 {
     name == FLC
-}
-
-// Whether a channel is FLc.
-pub fn is_22_2(l: Layout) -> bool
-    ensures { λ r. ⌜ r ≡ is222 l ⌝ }
-{
-    let used = covered(l.used);
-    let mut i = 0usize;
-    while i < used {
-        let channel = l.channels[i];
-        if is_flc(channel.name) {
-            return true;
-        }
-        i += 1;
-    }
-    false
 }

@@ -15,7 +15,7 @@ use lib.Ieee.Order.{drop, le-of-values}
 use lib.Ieee.Positive.{first-pos}
 use lib.Ieee.Scale.{grid, finite, round-same}
 use Rattle.doubles.specs.Root.{sqrtOf, roundRoot}
-use Rattle.doubles.specs.Arithmetic.{zero as zeroF}
+use Rattle.doubles.specs.Arithmetic.{zero64}
 use Rattle.doubles.specs.Norm.{fiveQuarters, foldSquares, Bounded}
 use Rattle.doubles.proofs.Magnitude.{mag, mag-of, mag-val, plain, plain-finite, plain-val, mul-cross, div-at, mag-lt}
 use Rattle.doubles.proofs.Rounding.{grid-near, step-small}
@@ -272,11 +272,11 @@ unfolding fits
 five-quarters-fits binary32 = tt
 five-quarters-fits binary64 = tt
 
-pub zero-le-plain : (r : Float) → T (plain r) → T (le zeroF r)
+pub zero-le-plain : (r : Float) → T (plain r) → T (le zero64 r)
 zero-le-plain nan p = absurd p
 zero-le-plain (inf s) p = absurd p
 zero-le-plain (fin true m e) p = absurd p
-zero-le-plain (fin false m e) p = le-of-values zeroF (fin false m e) 0 1 (m * up e) (down e) (zero-lt-suc 0) (down-pos e) (refl, refl) (refl, refl) (le-trans (le-of-eq (zero-mul (down e))) zero-le)
+zero-le-plain (fin false m e) p = le-of-values zero64 (fin false m e) 0 1 (m * up e) (down e) (zero-lt-suc 0) (down-pos e) (refl, refl) (refl, refl) (le-trans (le-of-eq (zero-mul (down e))) zero-le)
 
 bounded-plain : (f : Format) (x r : Float) → T (fits f x) → T (fits f r) → T (plain x) → T (plain r) → 1 ≤ mag f r → 4 * mag f x ≤ 5 * mag f r → Bounded (div f x r)
 bounded-plain f x r h k p q o l =
@@ -306,7 +306,7 @@ bounded-zero : Bounded (fin true 0 (pos 0))
 unfolding le
 bounded-zero = (tt, tt, tt)
 
-pub mag-pos : (f : Format) (x : Float) → T (fits f x) → T (plain x) → T (lt zeroF x) → 1 ≤ mag f x
+pub mag-pos : (f : Format) (x : Float) → T (fits f x) → T (plain x) → T (lt zero64 x) → 1 ≤ mag f x
 unfolding lt
 mag-pos f nan h p l = absurd p
 mag-pos f (inf s) h p l = absurd p
@@ -315,14 +315,14 @@ mag-pos f (fin false m e) h p l =
     first-pos (mag f (fin false m e)) (down e) (lt-of-lt-of-le (mul-pos (lt-of-le-of-lt zero-le (lt-of-lt-of-le (ltb→lt (0 * 1 * down e) (m * up e * 1) l) (le-of-eq (mul-one (m * up e))))) (pow-pos (low f))) (le-of-eq (mag-val f (fin false m e) h tt .1)))
 
 -- ---- the theorem
-pub norm-bound : (f : Format) (v : List Float) (x : Float) → T (finite (foldSquares f zeroF v)) → T (lt zeroF (foldSquares f zeroF v)) → List·Memᴰ x v → T (fits f x) → T (notNeg x) → Bounded (div f x (sqrtOf f (foldSquares f zeroF v)))
+pub norm-bound : (f : Format) (v : List Float) (x : Float) → T (finite (foldSquares f zero64 v)) → T (lt zero64 (foldSquares f zero64 v)) → List·Memᴰ x v → T (fits f x) → T (notNeg x) → Bounded (div f x (sqrtOf f (foldSquares f zero64 v)))
 norm-bound f v x t l i h n =
-    let z : T (fits f zeroF) = unfold fits in tt in
-    let s = sum-from f zeroF v tt z t in
-    let S = foldSquares f zeroF v in
-    let F : T (fits f S) = sum-fits f zeroF v z in
+    let z : T (fits f zero64) = unfold fits in tt in
+    let s = sum-from f zero64 v tt z t in
+    let S = foldSquares f zero64 v in
+    let F : T (fits f S) = sum-fits f zero64 v z in
     let o : 1 ≤ mag f S = mag-pos f S F (s .1) l in
-    let q = sum-square f zeroF v x i tt z t in
+    let q = sum-square f zero64 v x i tt z t in
     let r = sqrt-rooted f S F (s .1) o in
     let b = four-five (mag f x) (2 ^ low f) (mag f (sqrtOf f S)) (mag f S) (square-bound f x (mag f S) h (q .0) (q .1) o) (r .1) in
     go x h n (square-finite f x (q .0)) (sqrtOf f S) (sqrt-fits f S F) (r .0) (r .2) b

@@ -9,7 +9,7 @@ use lib.Pow.{pow-pos}
 use lib.Ieee.{Float, nan, inf, fin, Format, low, up, down, round, sum, add, sub, neg, mul, le, fits}
 use lib.Ieee.Fits.{down-pos, round-fits}
 use lib.Ieee.Scale.{round-same}
-use Rattle.doubles.specs.Arithmetic.{one}
+use Rattle.doubles.specs.Arithmetic.{one64}
 use Rattle.doubles.proofs.Magnitude.{mag, mag-val, plain, plain-val, add-at, mul-at}
 use Rattle.doubles.proofs.Order.{mag-mono, mag-le, round-under-value}
 use Rattle.doubles.proofs.Interpolation.{mul-less, cross-mag, to-one}
@@ -64,7 +64,7 @@ pub up-to-more : (f : Format) (c d x : Float) → T (fits f c) → T (fits f d) 
 up-to-more f c d x h k p q l u = (u .0, u .1, mag-le f x d (u .0) k (u .1) q (le-trans (mag-mono f x c (u .0) h (u .1) p (u .2)) (mag-mono f c d h k p q l)))
 
 -- a factor up to 1
-pub mul-up-to : (f : Format) (c t x : Float) → T (fits f c) → T (plain c) → UpTo f one t → UpTo f c x → UpTo f c (mul f t x)
+pub mul-up-to : (f : Format) (c t x : Float) → T (fits f c) → T (plain c) → UpTo f one64 t → UpTo f c x → UpTo f c (mul f t x)
 mul-up-to f c t x h p u v =
     let r = mul-less f t x (u .0) (v .0) (u .1) (v .1) (to-one f t (u .0) (u .1) (u .2)) in
     (r .0, r .1, mag-le f (mul f t x) c (r .0) h (r .1) p (le-trans (r .2) (mag-mono f x c (v .0) h (v .1) p (v .2))))

@@ -1,6 +1,6 @@
 -- What the proof of `floor_any` cites: the floor of an `f64` below 2 ^ 53 in size from its whole part, and that from there up it is whole. Assumes nothing.
 use mathlib.Core.Path.{_≡_, refl, sym, ap, _∙_, subst}
-use Prim.Native.Nat.{ℕ, zero, suc, _+_, _-_, _*_, _/_, _^_, _≤_, _<_, min, zero-le}
+use Prim.Native.Nat.{ℕ, suc, _+_, _-_, _*_, _/_, _^_, _≤_, _<_, min, zero-le}
 use native.Mathlib.Nat.{le-trans, le-of-eq, le-of-lt, lt-of-lt-of-le, lt-of-le-of-lt, lt-irrefl, zero-lt-suc, zero-mul, mul-one, one-mul, add-zero, add-mul, mul-right-comm, mul-pos, mul-le-mul-right, lt-of-mul-lt-mul-right, le-of-mul-le-mul-right, div-one, div-lt-iff-lt-mul, div-mul-le-self, lt-div-mul-add, div-eq-of-lt-le, le-mul-of-pos-right}
 use native.Mathlib.Omega.{arith}
 use mathlib.Core.Bool.{Bool, true, false, not, true≢false}
@@ -18,7 +18,7 @@ use Rattle.doubles.proofs.Signs.{round-zero}
 use Rattle.doubles.proofs.Interpolation.{round-neg}
 
 abbrev pub zeroF : Float
-zeroF = arithmetic.zero
+zeroF = arithmetic.zero64
 
 -- 2 ^ 53
 abbrev pub B : Float

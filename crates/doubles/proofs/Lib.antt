@@ -4,6 +4,7 @@ pub mod Signs
 pub mod Order
 pub mod Fractions
 pub mod AddZero
+pub mod Alike
 pub mod Roots
 pub mod Interpolation
 pub mod Differences

@@ -14,7 +14,7 @@ use lib.Ieee.Fits.{and-l, down-pos, round-fits}
 use lib.Ieee.Exact.{HasValue, round-exact}
 use lib.Ieee.Order.{le-of-values, round-mono}
 use lib.Ieee.Scale.{finite}
-use Rattle.doubles.specs.Arithmetic.{one, minusOne}
+use Rattle.doubles.specs.Arithmetic.{one64, minusOne64}
 use Rattle.doubles.proofs.Magnitude.{mag, mag-of, mag-val, sign, plain, plain-finite, plain-val, round-at, div-at}
 use Rattle.doubles.proofs.Signs.{round-clear}
 use Rattle.doubles.proofs.Order.{mag-mono, plain-under, clear-finite}
@@ -61,16 +61,16 @@ module _ (f : Format) (d e c : ℕ) (C : 0 < c) (order : d ≤ e) (some : c ≤ 
       let p = plain-under (round f false 1 l) y (round-clear f 1 l) y-plain o in
       le-trans (le-of-eq (sym (unit-mag f))) (mag-mono f (round f false 1 l) y (round-fits f false 1 l) (round-fits f false e c) p y-plain o)
 
-  quotient-up-to : UpTo f one (div f x y)
+  quotient-up-to : UpTo f one64 (div f x y)
   quotient-up-to =
       let l = 2 ^ low f in
       let L = pow-pos (low f) in
       let q = div-at f x y (mag f x) l (mag f y) l L L y-some (plain-val f x (round-fits f false d c) x-plain) (plain-val f y (round-fits f false e c) y-plain) in
       let r = round f false (mag f x * l) (mag f y * l) in
-      let o : T (le r one) =
-      subst (λ (z : Float). T (le r z)) (round-at f one false 1 1 (one-fits f) (omega arith) (refl, refl))
+      let o : T (le r one64) =
+      subst (λ (z : Float). T (le r z)) (round-at f one64 false 1 1 (one-fits f) (omega arith) (refl, refl))
       (round-mono f (mag f x * l) (mag f y * l) 1 1 (mul-pos y-some L) (omega arith) (le-trans (le-of-eq (mul-one (mag f x * l))) (le-trans (mul-le-mul-right l mags) (le-of-eq (sym (one-mul (mag f y * l))))))) in
-      subst (λ (z : Float). UpTo f one z) (sym q) (round-fits f false (mag f x * l) (mag f y * l), plain-under r one (round-clear f (mag f x * l) (mag f y * l)) tt o, o)
+      subst (λ (z : Float). UpTo f one64 z) (sym q) (round-fits f false (mag f x * l) (mag f y * l), plain-under r one64 (round-clear f (mag f x * l) (mag f y * l)) tt o, o)
 
 -- ---- how far ±p is above ±q
 abbrev gap : Bool → ℕ → Bool → ℕ → ℕ
@@ -159,7 +159,7 @@ module _
         lt-units f a b fa fb ta tb
         ∙ below-order (sign u) (sign a) (sign b) (mag f u) (mag f a) (mag f b) (sym (lt-units f a u fa fu ta tu) ∙ above) (sym (lt-units f b u fb fu tb tu) ∙ within)
 
-    pub ratio-up-to : T (finite (sub f b a)) → UpTo f one (div f (sub f u a) (sub f b a))
+    pub ratio-up-to : T (finite (sub f b a)) → UpTo f one64 (div f (sub f u a) (sub f b a))
     ratio-up-to room =
         let l = 2 ^ low f in
         let L = pow-pos (low f) in
@@ -186,14 +186,14 @@ unfolding fits
 unsigned f zero e h = h
 unsigned f (suc m) e h = h
 
-room-mag : (f : Format) (x : Float) → T (fits f x) → T (le minusOne x) → T (le x one) → mag f x ≤ 2 ^ low f
+room-mag : (f : Format) (x : Float) → T (fits f x) → T (le minusOne64 x) → T (le x one64) → mag f x ≤ 2 ^ low f
 unfolding le
 room-mag f nan h lo hi = absurd lo
 room-mag f (inf true) h lo hi = absurd lo
 room-mag f (inf false) h lo hi = absurd hi
 room-mag f (fin false m e) h lo hi = to-one f (fin false m e) h tt hi
 room-mag f (fin true m e) h lo hi =
-    to-one f (fin false m e) (unsigned f m e h) tt (le-of-values (fin false m e) one (m * up e) (down e) 1 1 (down-pos e) (omega arith) (refl, refl) (refl, refl) (turned (m * up e * 1) (1 * down e) lo))
+    to-one f (fin false m e) (unsigned f m e h) tt (le-of-values (fin false m e) one64 (m * up e) (down e) 1 1 (down-pos e) (omega arith) (refl, refl) (refl, refl) (turned (m * up e * 1) (1 * down e) lo))
 
 gap-most : (s t : Bool) (p q l : ℕ) → p ≤ l → q ≤ l → gap s p t q ≤ 2 * l
 gap-most false false p q l h k = omega arith
@@ -214,10 +214,10 @@ module _
     (a b : Float)
     (fa : T (fits f a))
     (fb : T (fits f b))
-    (lo-a : T (le minusOne a))
-    (hi-a : T (le a one))
-    (lo-b : T (le minusOne b))
-    (hi-b : T (le b one))
+    (lo-a : T (le minusOne64 a))
+    (hi-a : T (le a one64))
+    (lo-b : T (le minusOne64 b))
+    (hi-b : T (le b one64))
     (ta : T (finite a))
     (tb : T (finite b))
     (order : lt a b ≡ true)
@@ -235,7 +235,7 @@ module _
         rw y (plain-finite (round f false e l) (plain-under (round f false e l) two (round-clear f e l) tt o))
 
 -- ---- and so for a and b from -1 to 1
-pub ratio-in-room : (f : Format) (a u b : Float) → T (fits f a) → T (fits f u) → T (fits f b) → T (finite a) → T (finite u) → T (finite b) → T (le minusOne a) → T (le a one) → T (le minusOne b) → T (le b one) →
-    lt a u ≡ true → lt b u ≡ false → UpTo f one (div f (sub f u a) (sub f b a))
+pub ratio-in-room : (f : Format) (a u b : Float) → T (fits f a) → T (fits f u) → T (fits f b) → T (finite a) → T (finite u) → T (finite b) → T (le minusOne64 a) → T (le a one64) → T (le minusOne64 b) → T (le b one64) →
+    lt a u ≡ true → lt b u ≡ false → UpTo f one64 (div f (sub f u a) (sub f b a))
 ratio-in-room f a u b fa fu fb ta tu tb la ha lb hb above within =
     ratio-up-to f a u b fa fu fb ta tu tb above within (difference-finite f a b fa fb la ha lb hb ta tb (below-both f a u b fa fu fb ta tu tb above within))

@@ -1,16 +1,13 @@
 -- Which values have no sign, or are not negative, and that sums, products, quotients and roots of such values are such values. Assumes nothing.
 use mathlib.Core.Path.{_≡_, refl, sym, ap, _∙_, subst}
-use Prim.Native.Nat.{ℕ, zero, suc, _+_, _-_, _*_, _^_, _≤_, _<_, zero-le}
-use native.Mathlib.Nat.{zero-mul, mul-pos, lt-irrefl, lt-of-lt-of-le, le-of-eq, lt-of-le-of-lt, zero-lt-suc, mul-comm}
-use native.Mathlib.Omega.{arith}
+use Prim.Native.Nat.{ℕ, zero, suc, _+_, _-_, _*_, _^_, _<_, zero-le}
+use native.Mathlib.Nat.{zero-mul, mul-pos, lt-irrefl, lt-of-lt-of-le, le-of-eq, lt-of-le-of-lt, mul-comm}
 use mathlib.Core.Bool.{Bool, true, false, not, cond}
-use lib.Arith.{le→nltb}
-use lib.IntN.{ℤ, pos}
-use lib.Dec.{T, ltb, eqb, ltb→lt, nltb→le, eqb→eq}
+use lib.IntN.{pos}
+use lib.Dec.{T, ltb, eqb, ltb→lt, eqb→eq}
 use lib.Ieee.{Float, nan, inf, fin, Format, prec, emax, low, up, down, odd, units, round, sum, add, mul, div, lt, fits}
-use lib.Ieee.Fits.{round-is, down-pos, up-pos}
+use lib.Ieee.Fits.{round-is, down-pos}
 use Rattle.doubles.proofs.Magnitude.{round-at}
-use Rattle.doubles.specs.Root.{sqrtOf}
 
 -- a NaN, or the sign is clear: so it is no -0
 abbrev pub clear : Float → Bool
@@ -87,15 +84,6 @@ div-clear f (fin true m e) (fin t n d) p q = absurd p
 div-clear f (fin false m e) (fin true n d) p q = absurd q
 div-clear f (fin false m e) (fin false n d) p q = cond-clear (eqb n 0) (cond (eqb m 0) nan (inf false)) (round f false (m * up e * down d) (n * up d * down e)) (cond-clear (eqb m 0) nan (inf false) tt tt) (round-clear f _ _)
 
-pub sqrt-clear : (f : Format) (x : Float) → T (clear x) → T (clear (sqrtOf f x))
-unfolding sqrtOf
-sqrt-clear f nan p = tt
-sqrt-clear f (inf true) p = absurd p
-sqrt-clear f (inf false) p = tt
-sqrt-clear f (fin s zero e) p = p
-sqrt-clear f (fin true (suc m) e) p = tt
-sqrt-clear f (fin false (suc m) e) p = round-clear f _ _
-
 -- a square has no sign, whatever is squared
 pub square-clear : (f : Format) (x : Float) → T (clear (mul f x x))
 unfolding mul
@@ -111,28 +99,6 @@ notNeg nan = true
 notNeg (inf s) = not s
 notNeg (fin false m e) = true
 notNeg (fin true m e) = eqb m 0
-
--- as IEEE 754 says it: it is not below zero
-pub notNeg-of : (x : Float) → T (not (lt x (fin false 0 (pos 0)))) → T (notNeg x)
-unfolding lt
-notNeg-of nan h = tt
-notNeg-of (inf s) h = h
-notNeg-of (fin false m e) h = tt
-notNeg-of (fin true m e) h = is-zero m e (nltb→le 0 (m * up e * 1 + 0 * 1 * down e) h)
-  where
-    none : (a b : ℕ) → a * 1 + b ≤ 0 → a ≡ 0
-    none a b h = omega arith
-
-    is-zero : (m : ℕ) (e : ℤ) → m * up e * 1 + 0 * 1 * down e ≤ 0 → T (eqb m 0)
-    is-zero zero e h = tt
-    is-zero (suc m) e h = absurd (lt-irrefl 0 (lt-of-lt-of-le (mul-pos (zero-lt-suc m) (up-pos e)) (le-of-eq (none (suc m * up e) (0 * 1 * down e) h))))
-
-pub notNeg-says : (x : Float) → T (notNeg x) → T (not (lt x (fin false 0 (pos 0))))
-unfolding lt
-notNeg-says nan h = tt
-notNeg-says (inf s) h = h
-notNeg-says (fin false m e) h = le→nltb (m * up e * 1) (0 * 1 * down e) (subst (λ (k : ℕ). k ≤ m * up e * 1) (sym (zero-mul (down e))) zero-le)
-notNeg-says (fin true m e) h = le→nltb 0 (m * up e * 1 + 0 * 1 * down e) (le-of-eq (ap (λ (k : ℕ). k * up e * 1 + 0 * 1 * down e) (eqb→eq m 0 h) ∙ ap (λ (k : ℕ). k * 1 + 0 * 1 * down e) (zero-mul (up e)) ∙ ap (λ (k : ℕ). 0 * 1 + k) (zero-mul (down e))))
 
 pub clear-notNeg : (x : Float) → T (clear x) → T (notNeg x)
 clear-notNeg nan h = tt

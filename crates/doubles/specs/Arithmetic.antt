@@ -25,14 +25,14 @@ abbrev pub dec : ℕ → ℕ → Float
 dec n k = round binary64 false n (10 ^ k)
 
 -- the double nearest to a whole number
-abbrev pub whole : ℤ → Float
-whole z = ofInt binary64 z
+abbrev pub fromInt : ℤ → Float
+fromInt z = ofInt binary64 z
 
-abbrev pub zero : Float
-zero = fin false 0 (pos 0)
+abbrev pub zero64 : Float
+zero64 = fin false 0 (pos 0)
 
-abbrev pub one : Float
-one = fin false 1 (pos 0)
+abbrev pub one64 : Float
+one64 = fin false 1 (pos 0)
 
-abbrev pub minusOne : Float
-minusOne = fin true 1 (pos 0)
+abbrev pub minusOne64 : Float
+minusOne64 = fin true 1 (pos 0)

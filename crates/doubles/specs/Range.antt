@@ -3,8 +3,8 @@ use mathlib.Core.Bool.{Bool, _&&_, cond}
 use lib.Ieee.{Float, lt, le}
 
 -- from a to b
-abbrev pub between : Float → Float → Float → Bool
-between a b x = le a x && le x b
+abbrev pub isBetween : Float → Float → Float → Bool
+isBetween a b x = le a x && le x b
 
 -- Rust's `clamp`
 unfoldable pub clampTo : Float → Float → Float → Float

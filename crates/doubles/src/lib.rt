@@ -16,5 +16,6 @@ pub use range::clamp;
 pub use range::is_between;
 pub use range::is_finite;
 pub use root::sqrt;
+pub use whole::SHIFT;
 pub use whole::floor;
 pub use whole::floor_near;

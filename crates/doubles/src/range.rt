@@ -1,7 +1,7 @@
 // Tests of a double's range.
 ghost use mathlib.Core.Path.{_≡_};
 ghost use lib.Ieee.Scale.{finite};
-ghost use Rattle.doubles.specs.Range.{between, clampTo};
+ghost use Rattle.doubles.specs.Range.{isBetween, clampTo};
 
 // Whether x is neither NaN nor an infinity.
 pub fn is_finite(x: f64) -> bool
@@ -12,7 +12,7 @@ pub fn is_finite(x: f64) -> bool
 
 // Whether x is from low to high. NaN is from nothing to nothing.
 pub fn is_between(low: f64, high: f64, x: f64) -> bool
-    ensures { λ r. ⌜ r ≡ between low high x ⌝ }
+    ensures { λ r. ⌜ r ≡ isBetween low high x ⌝ }
 {
     (low <= x) & (x <= high)
 }

@@ -4,7 +4,7 @@ ghost use Prim.Native.Nat.{_+_, _*_, _^_, _<_, _≤_};
 ghost use lib.Dec.{T};
 ghost use lib.Ieee.{binary64, lt};
 ghost use lib.Ieee.Scale.{finite};
-ghost use Rattle.doubles.specs.Arithmetic.{zero};
+ghost use Rattle.doubles.specs.Arithmetic.{zero64};
 ghost use Rattle.doubles.specs.Root.{sqrtOf, squareUnits, Steps, IsRoot, IsNearestRoot, NearRoot};
 
 // 2 ^ 27 + 1, which splits a double into two halves of its digits.
@@ -161,7 +161,7 @@ fn is_rounded(m: u64, e: u64, s: f64) -> bool
 
 // The root of an x above zero and finite: of a normal x the guess where that is right, else by digits.
 fn sqrt_positive(x: f64) -> f64
-    requires { ⌜ T (lt zero x) ⌝ }
+    requires { ⌜ T (lt zero64 x) ⌝ }
     requires { ⌜ T (finite x) ⌝ }
     ensures { λ r. ⌜ NearRoot (squareUnits x) r ⌝ }
 {
@@ -187,7 +187,7 @@ fn sqrt_positive(x: f64) -> f64
 // an algorithm: x lies between the squares of the two midpoints around the result.
 pub fn sqrt(x: f64) -> f64
     ensures { λ r. ⌜ r ≡ sqrtOf binary64 x ⌝ }
-    ensures nearest { λ r. ⌜ (T (lt zero x) → T (finite x) → NearRoot (squareUnits x) r) ⌝ }
+    ensures nearest { λ r. ⌜ (T (lt zero64 x) → T (finite x) → NearRoot (squareUnits x) r) ⌝ }
 {
     if x > 0.0 {
         if x < 1.0 / 0.0 { sqrt_positive(x) } else { x }

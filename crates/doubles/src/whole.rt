@@ -4,17 +4,17 @@ ghost use mathlib.Core.Bool.{true, false};
 ghost use lib.Dec.{T};
 ghost use lib.IntN.{pos};
 ghost use lib.Ieee.{binary64, fin, add, lt, le};
-ghost use Rattle.doubles.specs.Arithmetic.{zero};
+ghost use Rattle.doubles.specs.Arithmetic.{zero64};
 ghost use Rattle.doubles.specs.Floor.{floorOf, floorNear};
 
 // 1.5 * 2 ^ 52. Between 2 ^ 52 and 2 ^ 53 the doubles are the whole numbers.
-const SHIFT: f64 = 6755399441055744.0;
+pub const SHIFT: f64 = 6755399441055744.0;
 
 // The floor of an x from -2 ^ 51 up and below 2 ^ 51, with -0 as +0, as `near` says. The sum with SHIFT
 // is rounded to the nearest whole number, and the difference is exact.
 pub fn floor_near(x: f64) -> f64
     ensures { λ r. ⌜ r ≡ floorNear x ⌝ }
-    ensures near { λ r. ⌜ (T (le (fin true 1 (pos 51)) x) → T (lt x (fin false 1 (pos 51))) → r ≡ add binary64 (floorOf binary64 x) zero) ⌝ }
+    ensures near { λ r. ⌜ (T (le (fin true 1 (pos 51)) x) → T (lt x (fin false 1 (pos 51))) → r ≡ add binary64 (floorOf binary64 x) zero64) ⌝ }
 {
     let n = (x + SHIFT) - SHIFT;
     if n > x { n - 1.0 } else { n }

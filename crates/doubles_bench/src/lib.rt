@@ -1,18 +1,8 @@
-// The loops that tools/bench times: each function of `doubles` over a slice, exported.
-ghost use mathlib.Core.Path.{_≡_};
-ghost use lib.Ieee.{binary64};
-ghost use Rattle.doubles.specs.Arithmetic.{zero};
-ghost use Rattle.doubles.specs.Floor.{floorOf};
-ghost use Rattle.doubles.specs.Root.{sqrtOf};
-ghost use Rattle.approximations.specs.Exp2.{exp2Of};
-ghost use Rattle.approximations.specs.Log2.{log2Of};
-ghost use Rattle.doubles_bench.specs.Sums.{folded, added, rooted};
+// The loops that tools/bench times: each function of `doubles` over a slice, exported. They promise nothing.
 
 // The sum of the floors of v.
 #[no_mangle]
-pub extern "C" fn rug_sum_floor(v: &[f64]) -> f64
-    ensures { λ r. ⌜ r ≡ folded (added (floorOf binary64)) zero (now (v .entry)) ⌝ }
-{
+pub extern "C" fn rug_sum_floor(v: &[f64]) -> f64 {
     let mut sum = 0.0;
     let mut i = 0usize;
     while i < v.len() {
@@ -24,9 +14,7 @@ pub extern "C" fn rug_sum_floor(v: &[f64]) -> f64
 
 // The sum of the roots of v.
 #[no_mangle]
-pub extern "C" fn rug_sum_sqrt(v: &[f64]) -> f64
-    ensures { λ r. ⌜ r ≡ folded (added (sqrtOf binary64)) zero (now (v .entry)) ⌝ }
-{
+pub extern "C" fn rug_sum_sqrt(v: &[f64]) -> f64 {
     let mut sum = 0.0;
     let mut i = 0usize;
     while i < v.len() {
@@ -38,9 +26,7 @@ pub extern "C" fn rug_sum_sqrt(v: &[f64]) -> f64
 
 // The sum of approx_exp2 over v.
 #[no_mangle]
-pub extern "C" fn rug_sum_exp2(v: &[f64]) -> f64
-    ensures { λ r. ⌜ r ≡ folded (added exp2Of) zero (now (v .entry)) ⌝ }
-{
+pub extern "C" fn rug_sum_exp2(v: &[f64]) -> f64 {
     let mut sum = 0.0;
     let mut i = 0usize;
     while i < v.len() {
@@ -52,9 +38,7 @@ pub extern "C" fn rug_sum_exp2(v: &[f64]) -> f64
 
 // The sum of approx_log2 over v.
 #[no_mangle]
-pub extern "C" fn rug_sum_log2(v: &[f64]) -> f64
-    ensures { λ r. ⌜ r ≡ folded (added log2Of) zero (now (v .entry)) ⌝ }
-{
+pub extern "C" fn rug_sum_log2(v: &[f64]) -> f64 {
     let mut sum = 0.0;
     let mut i = 0usize;
     while i < v.len() {
@@ -66,9 +50,7 @@ pub extern "C" fn rug_sum_log2(v: &[f64]) -> f64
 
 // A dependent chain: each root is of the next number of v and the root before.
 #[no_mangle]
-pub extern "C" fn rug_chain_sqrt(v: &[f64]) -> f64
-    ensures { λ r. ⌜ r ≡ folded rooted zero (now (v .entry)) ⌝ }
-{
+pub extern "C" fn rug_chain_sqrt(v: &[f64]) -> f64 {
     let mut y = 0.0;
     let mut i = 0usize;
     while i < v.len() {

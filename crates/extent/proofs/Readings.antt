@@ -2,14 +2,21 @@
 use Prim.Native.Nat.{ℕ}
 use mathlib.Core.Path.{_≡_, refl, sym, ap, _∙_}
 use mathlib.Core.Bool.{Bool, true, false, cond, true≢false, false≢true}
+use native.Mathlib.Omega.{arith}
 use borrow.Author.Tests.{eq-eqb, ne-eqb, eqb-true}
 use lib.Dec.{eqb}
 use lib.Ieee.{Float}
 use Rattle.layout.specs.Questions.{firstNo}
+use Rattle.layout.proofs.QuestionLists.{Numbered}
 use Rattle.extent.specs.declared.Extent.{Extent}
 use Rattle.extent.specs.declared.Reading.{Reading}
 use Rattle.extent.specs.declared.Reading.the-variants.{Refused, Read}
 use Rattle.extent.specs.Extent.{question7, question18, question19, extentQuestions, meanOf, meanRadius, readOf}
+
+-- each of the three has a number from 1 up
+pub extent-numbered : (e : Extent) → Numbered (extentQuestions e)
+unfolding extentQuestions
+extent-numbered e = (omega arith, (omega arith, (omega arith, tt)))
 
 -- ---- the parts of a reading
 isRead : Reading → Bool

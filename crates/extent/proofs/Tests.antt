@@ -8,9 +8,6 @@ use lib.Dec.{T, ltb, eqb, ltb→lt, eqb→eq}
 pub yes : {b : Bool} → b ≡ true → T b
 yes h = subst T (sym h) tt
 
-pub no : {b : Bool} → b ≡ false → T (not b)
-no h = subst (λ (a : Bool). T (not a)) (sym h) tt
-
 pub turned : (b c : Bool) → not b ≡ c → b ≡ not c
 turned true c h = ap not h
 turned false c h = ap not h
@@ -23,7 +20,3 @@ at-least a b t h = go (ltb a b) (eqb a b) t (ltb→lt a b) (eqb→eq a b) h
     go true q t x y h = let l = x tt in omega arith
     go false true t x y h = let e = y tt in omega arith
     go false false t x y h = absurd h
-
-pub left-not : (b c : Bool) → T (not (b || c)) → T (not b)
-left-not true c h = h
-left-not false c h = tt

@@ -9,8 +9,8 @@ use lib.Ieee.Nearest.{closest}
 use lib.Ieee.Positive.{num, den}
 use lib.Ieee.Scale.{finite}
 use lib.ListN.{getD}
-use Rattle.doubles.specs.Arithmetic.{_⊕_, _⊖_, _⊗_, _⊘_, dec, whole, zero, one}
-use Rattle.doubles.specs.Range.{between, clampTo}
+use Rattle.doubles.specs.Arithmetic.{_⊕_, _⊖_, _⊗_, _⊘_, dec, fromInt, zero64, one64}
+use Rattle.doubles.specs.Range.{isBetween, clampTo}
 use Rattle.layout.specs.Questions.{Question, firstNo}
 use Rattle.extent.specs.declared.Extent.{Extent}
 use Rattle.extent.specs.declared.Reading.{Reading}
@@ -18,7 +18,7 @@ use Rattle.extent.specs.declared.Reading.the-variants.{Refused, Read}
 
 -- what each component is to be: finite and from 0 to 1
 abbrev pub component : Float → Bool
-component v = finite v && between zero one v
+component v = finite v && isBetween zero64 one64 v
 
 -- 7. Is the extent's x finite and from 0 to 1?
 abbrev pub question7 : Extent → Bool
@@ -57,10 +57,10 @@ abbrev pub knot : Float → Float → Knot
 knot s r = record { scalar = s; radius = r }
 
 abbrev pub firstKnot : Knot
-firstKnot = knot zero zero
+firstKnot = knot zero64 zero64
 
 abbrev pub laterKnots : List Knot
-laterKnots = knot (dec 2 1) (dec 75 3) ∷ knot (dec 5 1) (dec 25 2) ∷ knot (dec 75 2) (dec 45 2) ∷ knot one (dec 7 1) ∷ []
+laterKnots = knot (dec 2 1) (dec 75 3) ∷ knot (dec 5 1) (dec 25 2) ∷ knot (dec 75 2) (dec 45 2) ∷ knot one64 (dec 7 1) ∷ []
 
 -- the i-th of the five
 abbrev pub knotAt : ℕ → Knot
@@ -77,11 +77,11 @@ radiusFrom a (b ∷ bs) s = cond (le s (b .scalar)) (radiusBetween a b s) (radiu
 
 unfoldable pub radiusOf : Float → Float
 unfolding clampTo
-radiusOf scalar = let s = clampTo zero one scalar in cond (le s (firstKnot .scalar)) (firstKnot .radius) (radiusFrom firstKnot laterKnots s)
+radiusOf scalar = let s = clampTo zero64 one64 scalar in cond (le s (firstKnot .scalar)) (firstKnot .radius) (radiusFrom firstKnot laterKnots s)
 
 -- the radius of a mean: scalar = mean / 32768
 abbrev pub meanRadius : ℕ → Float
-meanRadius m = radiusOf (whole (pos m) ⊘ whole (pos 32768))
+meanRadius m = radiusOf (fromInt (pos m) ⊘ fromInt (pos 32768))
 
 -- ---- what reading an extent answers: the number of the first question with a no, or mean and radius
 abbrev pub readOf : Extent → Reading

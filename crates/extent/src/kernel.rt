@@ -6,7 +6,8 @@ use approximations::approx_log2;
 use approximations::cosine;
 use doubles::is_finite;
 
-const ZERO_FIELD_THRESHOLD: f64 = 2.5e-5;
+// Below it a radius has no field.
+pub const ZERO_FIELD_THRESHOLD: f64 = 2.5e-5;
 
 const KERNEL_COEFFICIENT: f64 = 16.8172606265625;
 

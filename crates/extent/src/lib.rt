@@ -2,6 +2,7 @@
 mod kernel;
 mod radius;
 
+pub use kernel::ZERO_FIELD_THRESHOLD;
 pub use kernel::compact_quartic_kernel;
 pub use kernel::shaped;
 pub use kernel::shaping_exponent;

@@ -5,12 +5,10 @@ ghost use Rattle.layout.specs.Questions.{firstNo};
 ghost use Rattle.extent.specs.Extent.{quantised, meanOf, knotAt, radiusBetween, radiusOf, extentQuestions, readOf};
 use crate::Extent;
 use crate::Reading;
+use doubles::SHIFT;
 use doubles::is_between;
 
 const Q: f64 = 32768.0;
-
-// 1.5 * 2 ^ 52. Between 2 ^ 52 and 2 ^ 53 the doubles are the whole numbers.
-const SHIFT: f64 = 6755399441055744.0;
 
 // The knots of the radius: at E[i] it is S[i].
 const E: [f64; 5] = [0.0, 0.2, 0.5, 0.75, 1.0];

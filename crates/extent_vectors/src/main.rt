@@ -1,10 +1,14 @@
-// Replays the Rust's readings of extents. Each line of the input is a letter, a space and 16 hexadecimal
-// digits.
+// Replays the Rust's readings of extents, its kernel and its shaping. Each line of the input is a letter, a
+// space and 16 hexadecimal digits.
 //
 // x, y and z set a component of the extent to the double of that pattern. r reads the extent: it writes the
 // mean and the radius's bits, or the number of the question that refuses it. h goes through the 128 odd
 // numbers k from that number on: of each it writes the means of three equal components, which are the
 // double below k / 65536, that number itself, and the double above it.
+//
+// Four commands write the bits of a double: d the radius of the scalar of that pattern, e the shaping exponent
+// of that radius, s the component x shaped with that exponent, and k the kernel at x about the centre y with
+// the radius z, on Z where the number is 1.
 use extent::Extent;
 use extent::Reading;
 use libc::STDIN_FILENO;
@@ -48,6 +52,21 @@ fn read(e: Extent) {
     io::write_all(STDOUT_FILENO, b"\n");
 }
 
+fn put(x: f64) {
+    io::print_hex(STDOUT_FILENO, doubles::bits_of(x), 16);
+    io::write_all(STDOUT_FILENO, b"\n");
+}
+
+// Radius, exponent, shaping or kernel by itself.
+fn tell(e: Extent, letter: u8, n: u64) {
+    match letter {
+        b'd' => put(extent::extent_radius(doubles::of_bits(n))),
+        b'e' => put(extent::shaping_exponent(doubles::of_bits(n))),
+        b's' => put(extent::shaped(e.x, doubles::of_bits(n))),
+        _ => put(extent::compact_quartic_kernel(e.x, e.y, e.z, n == 1)),
+    }
+}
+
 // The mean of three components of a pattern, and what stands behind it.
 fn put_mean(bits: u64, behind: u8) {
     let v = doubles::of_bits(bits);
@@ -84,6 +103,10 @@ fn step(e: Extent, letter: u8, n: u64) -> Extent {
     }
     if letter == b'h' {
         put_halves(n);
+        return e;
+    }
+    if letter < b'x' {
+        tell(e, letter, n);
         return e;
     }
     set(e, letter, doubles::of_bits(n))

@@ -1,21 +1,18 @@
 -- Every number of a place is a double, and it is clear (NaN, or the sign is clear) where the end responses are. A filled store: its length, its numbers, and what stays. Assumes nothing.
-use Prim.Native.Nat.{ℕ, zero, suc, _+_, _-_, _*_, _/_, _%_, _≤_, _<_}
+use Prim.Native.Nat.{ℕ, zero, suc, _+_, _-_, _/_, _%_, _<_}
 use mathlib.Core.Path.{_≡_, ap, ap₂, _∙_}
 use mathlib.Core.Bool.{Bool, true, false, _&&_, cond}
 use mathlib.Core.List.{List, [], _∷_}
-use native.Mathlib.Nat.{le-div-iff-mul-le}
 use native.Mathlib.Omega.{arith}
-use borrow.Author.Tests.{le-leb, lt-leb, le-ltb}
+use borrow.Author.Tests.{le-leb}
 use lib.Dec.{T, leb, ltb, eqb}
 use lib.Ieee.{Float, nan, binary64, fits}
 use lib.ListN.{length, getD}
-use Rattle.doubles.specs.Arithmetic.{_⊕_, one}
-use Rattle.doubles.specs.Arithmetic.{zero as zero64}
+use Rattle.doubles.specs.Arithmetic.{_⊕_, one64, zero64}
 use Rattle.doubles.proofs.Signs.{clear}
 use Rattle.doubles.proofs.Laws.{add-fits}
-use Rattle.layout.specs.declared.Layout.{Layout}
-use Rattle.layout.specs.Channels.{activeNames, activeCount}
-use Rattle.layout.specs.Topology.{TopologyLayer, topologyOf}
+use Rattle.layout.specs.Topology.{TopologyLayer}
+use Rattle.layout.specs.Room.{Room, namesIn, activeIn}
 use Rattle.field.specs.Knots.{Axis, X, Y, Z}
 use Rattle.field.specs.Responses.{Weight, addedUp, weightsOn, responseOn}
 use Rattle.field.specs.Tables.{sampledOn}
@@ -24,7 +21,7 @@ use Rattle.field.proofs.Patching.{patched-length, getD-patched}
 use Rattle.field.proofs.Tables.{sampledOn-clear, sampledOn-fits}
 
 -- ---- what the tables' numbers and the end responses have, and NaN, every number of a place has
-module _ (P : Float → Type 0) (none : P nan) (t : List TopologyLayer) (tables : (a : Axis) (i j name : ℕ) → P (sampledOn a t i j name)) (lower : (a : Axis) (name : ℕ) → P (responseOn a t zero64 name)) (upper : (a : Axis) (name : ℕ) → P (responseOn a t one name)) where
+module _ (P : Float → Type 0) (none : P nan) (t : List TopologyLayer) (tables : (a : Axis) (i j name : ℕ) → P (sampledOn a t i j name)) (lower : (a : Axis) (name : ℕ) → P (responseOn a t zero64 name)) (upper : (a : Axis) (name : ℕ) → P (responseOn a t one64 name)) where
   ends-have : (name e : ℕ) → P (getD (endNumbers t name) e nan)
   unfolding endNumbers
   ends-have name zero = lower X name
@@ -51,7 +48,7 @@ module _ (P : Float → Type 0) (none : P nan) (t : List TopologyLayer) (tables 
   place-has names k = row-has (k / length names) (getD names (k % length names) 0)
 
 -- ---- clear, where the end responses are
-pub place-clear : (t : List TopologyLayer) → ((a : Axis) (name : ℕ) → T (clear (responseOn a t zero64 name))) → ((a : Axis) (name : ℕ) → T (clear (responseOn a t one name))) → (names : List ℕ) (k : ℕ) → T (clear (placeNumber t names k))
+pub place-clear : (t : List TopologyLayer) → ((a : Axis) (name : ℕ) → T (clear (responseOn a t zero64 name))) → ((a : Axis) (name : ℕ) → T (clear (responseOn a t one64 name))) → (names : List ℕ) (k : ℕ) → T (clear (placeNumber t names k))
 place-clear t lower upper = place-has (λ (x : Float). T (clear x)) tt t (λ a i j name. sampledOn-clear a t i j name) lower upper
 
 -- ---- doubles
@@ -73,39 +70,25 @@ place-fits t =
     place-has (λ (x : Float). T (fits binary64 x)) (unfold fits in tt) t
     (λ a i j name. sampledOn-fits a t i j name)
     (λ a name. responses-fit a t zero64 name)
-    (λ a name. responses-fit a t one name)
+    (λ a name. responses-fit a t one64 name)
 
 -- ---- a filled store
-module _ (l : Layout) (p : ℕ) (store : List Float) where
+module _ (r : Room) (p : ℕ) (store : List Float) where
   abbrev writes : ℕ → Bool
-  writes i = leb (placeStart p) i && rowWritten (topologyOf l) ((i - placeStart p) / activeCount l)
+  writes i = leb (placeStart p) i && rowWritten (r .layers) ((i - placeStart p) / activeIn r)
 
   abbrev number : ℕ → Float
-  number i = placeNumber (topologyOf l) (activeNames l) (i - placeStart p)
+  number i = placeNumber (r .layers) (namesIn r) (i - placeStart p)
 
-  pub filled-length : length (filled l p store) ≡ length store
+  pub filled-length : length (filled r p store) ≡ length store
   unfolding filled filledFrom
   filled-length = patched-length writes number store
 
   -- number k of the place, where its row is written
-  pub filled-at : (k : ℕ) → placeStart p + k < length store → rowWritten (topologyOf l) (k / activeCount l) ≡ true → getD (filled l p store) (placeStart p + k) nan ≡ placeNumber (topologyOf l) (activeNames l) k
+  pub filled-at : (k : ℕ) → placeStart p + k < length store → rowWritten (r .layers) (k / activeIn r) ≡ true → getD (filled r p store) (placeStart p + k) nan ≡ placeNumber (r .layers) (namesIn r) k
   unfolding filled filledFrom
   filled-at k h w =
       let e : placeStart p + k - placeStart p ≡ k = omega arith in
       getD-patched writes number store (placeStart p + k) nan h
-      ∙ ap (λ (j : ℕ). cond (leb (placeStart p) (placeStart p + k) && rowWritten (topologyOf l) (j / activeCount l)) (placeNumber (topologyOf l) (activeNames l) j) (getD store (placeStart p + k) nan)) e
-      ∙ ap (λ (b : Bool). cond b (placeNumber (topologyOf l) (activeNames l) k) (getD store (placeStart p + k) nan)) (ap₂ _&&_ (le-leb (placeStart p) (placeStart p + k) (omega arith)) w)
-
-  -- all that is in no row of the place stays
-  pub filled-before : (i : ℕ) → i < placeStart p → i < length store → getD (filled l p store) i nan ≡ getD store i nan
-  unfolding filled filledFrom
-  filled-before i b h =
-      getD-patched writes number store i nan h
-      ∙ ap (λ (t : Bool). cond (t && rowWritten (topologyOf l) ((i - placeStart p) / activeCount l)) (number i) (getD store i nan)) (lt-leb (placeStart p) i b)
-
-  pub filled-behind : (i : ℕ) → 1 ≤ activeCount l → placeStart p + 1486 * activeCount l ≤ i → i < length store → getD (filled l p store) i nan ≡ getD store i nan
-  unfolding filled filledFrom
-  filled-behind i some b h =
-      let q : 1486 ≤ (i - placeStart p) / activeCount l = le-div-iff-mul-le some .1 (omega arith) in
-      getD-patched writes number store i nan h
-      ∙ rw (le-leb (placeStart p) i (omega arith), le-ltb ((i - placeStart p) / activeCount l) 1486 q)
+      ∙ ap (λ (j : ℕ). cond (leb (placeStart p) (placeStart p + k) && rowWritten (r .layers) (j / activeIn r)) (placeNumber (r .layers) (namesIn r) j) (getD store (placeStart p + k) nan)) e
+      ∙ ap (λ (b : Bool). cond b (placeNumber (r .layers) (namesIn r) k) (getD store (placeStart p + k) nan)) (ap₂ _&&_ (le-leb (placeStart p) (placeStart p + k) (omega arith)) w)

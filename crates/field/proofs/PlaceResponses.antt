@@ -7,13 +7,14 @@ use lib.Dec.{T}
 use lib.Ieee.{Float, nan, binary64, ofBits}
 use lib.Ieee.Scale.{finite}
 use lib.ListN.{length, getD, length-map, length-replicate, getD-replicate}
-use Rattle.doubles.specs.Arithmetic.{zero as zero64}
+use Rattle.doubles.specs.Arithmetic.{zero64}
 use Rattle.layout.specs.declared.Layout.{Layout}
-use Rattle.layout.specs.Accepted.{Accepted}
-use Rattle.layout.specs.Topology.{usedRows, rowCount, layerCount, startsFrom, anchorX, rowY, layerZ, anchorStarts, rowStarts, layerStarts, anchorPlace}
+use Rattle.layout.specs.Steps.Accepted.{Accepted}
+use Rattle.layout.specs.Topology.{usedRows, rowCount, layerCount, anchorX, rowY, layerZ}
+use Rattle.layout.specs.Steps.Starts.{startsFrom, anchorStarts, rowStarts, layerStarts, anchorIndex}
 use Rattle.field.specs.Knots.{X, Y, Z}
-use Rattle.field.specs.Responses.{responded, respondedZ, Parted, Grouped}
-use Rattle.field.specs.Place.{ResponsesOn, noResponses}
+use Rattle.field.specs.Steps.Flat.{responded, respondedZ, Parted, Grouped}
+use Rattle.field.specs.Steps.Filling.{ResponsesOn, noResponses}
 use Rattle.field.proofs.ResponseLayout.{ones, x-grouped, x-parted, y-grouped, y-parted, z-finite, z-parted, responses-x, responses-y, responses-z}
 
 zero-bits : ofBits binary64 0 ≡ zero64
@@ -43,14 +44,14 @@ module _ (l : Layout) where
 
 -- ---- what is asked, and what is left
 module _ (l : Layout) (layers : length (l .layers) ≡ 4) (rows : length (l .rows) ≡ 24) (anchors : length (l .anchors) ≡ 24) (a : Accepted l) where
-  module _ (at : List ℕ) (is-at : at ≡ map (anchorPlace l) (l .anchors)) where
+  module _ (at : List ℕ) (is-at : at ≡ map (anchorIndex l) (l .anchors)) where
     module _ (xs : List Float) (starts : List ℕ) (count : ℕ) (is-xs : xs ≡ map anchorX (l .anchors)) (is-starts : starts ≡ anchorStarts l) (is-count : count ≡ length (usedRows l)) where
       pub asked-x : Grouped xs starts count × Parted at ones (getD starts count 0)
       asked-x = rw (is-at, is-xs, is-starts, is-count) (x-grouped l layers rows anchors a, x-parted l layers rows anchors a)
 
       pub left-x : (out last : List Float) → out ≡ noResponses → last ≡ responded at ones xs starts count 20 out → length last ≡ length out → ResponsesOn X l last
       left-x out last none is long =
-          let e : last ≡ responded (map (anchorPlace l) (l .anchors)) ones (map anchorX (l .anchors)) (anchorStarts l) (length (usedRows l)) 20 noResponses =
+          let e : last ≡ responded (map (anchorIndex l) (l .anchors)) ones (map anchorX (l .anchors)) (anchorStarts l) (length (usedRows l)) 20 noResponses =
           is ∙ rw (is-at, is-xs, is-starts, is-count, none) in
           record {
             size = long ∙ ap length none ∙ none-length;
@@ -63,7 +64,7 @@ module _ (l : Layout) (layers : length (l .layers) ≡ 4) (rows : length (l .row
 
       pub left-y : (out last : List Float) → out ≡ noResponses → last ≡ responded at starts ys rowsAt (l .depth) 20 out → length last ≡ length out → ResponsesOn Y l last
       left-y out last none is long =
-          let e : last ≡ responded (map (anchorPlace l) (l .anchors)) (anchorStarts l) (map rowY (l .rows)) (rowStarts l) (l .depth) 20 noResponses =
+          let e : last ≡ responded (map (anchorIndex l) (l .anchors)) (anchorStarts l) (map rowY (l .rows)) (rowStarts l) (l .depth) 20 noResponses =
           is ∙ rw (is-at, is-ys, is-rows, is-starts, none) in
           record {
             size = long ∙ ap length none ∙ none-length;
@@ -84,7 +85,7 @@ module _ (l : Layout) (layers : length (l .layers) ≡ 4) (rows : length (l .row
 
       pub left-z : (out last : List Float) → out ≡ noResponses → last ≡ respondedZ at starts zs (l .depth) 8 out → length last ≡ length out → ResponsesOn Z l last
       left-z out last none is long =
-          let e : last ≡ respondedZ (map (anchorPlace l) (l .anchors)) (layerStarts l) (map layerZ (l .layers)) (l .depth) 8 noResponses =
+          let e : last ≡ respondedZ (map (anchorIndex l) (l .anchors)) (layerStarts l) (map layerZ (l .layers)) (l .depth) 8 noResponses =
           is ∙ rw (is-at, is-zs, is-starts, none) in
           record {
             size = long ∙ ap length none ∙ none-length;

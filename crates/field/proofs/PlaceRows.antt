@@ -9,17 +9,18 @@ use borrow.Author.Tests.{ltb-true, ltb-false, leb-true, lt-ltb, le-ltb, le-leb, 
 use lib.Dec.{leb, ltb}
 use lib.Ieee.{Float, nan}
 use lib.ListN.{length, getD}
-use Rattle.doubles.specs.Arithmetic.{one}
-use Rattle.doubles.specs.Arithmetic.{zero as zero64}
+use Rattle.doubles.specs.Arithmetic.{one64, zero64}
 use Rattle.layout.specs.declared.Layout.{Layout}
 use Rattle.layout.specs.Channels.{activeNames, activeCount}
 use Rattle.layout.specs.Topology.{TopologyLayer, topologyOf}
+use Rattle.layout.specs.Room.{roomOf}
 use Rattle.extent.specs.Kernel.{kernelOf, exponentOf}
 use Rattle.field.specs.Knots.{Axis, X, Y, Z, isZ, sampleCount, sample, centreKnot, radiusKnot}
 use Rattle.field.specs.Responses.{responseOn}
 use Rattle.field.specs.Patched.{patched, within, either}
 use Rattle.field.specs.Tables.{sampledOn, knotNumber, numberXY, row}
-use Rattle.field.specs.Place.{endNumbers, rowNumber, rowOfZ, rowWritten, placeNumber, filledFrom, ResponsesOn, endWritten, rowsFilled, filledXY, filledZ}
+use Rattle.field.specs.Place.{endNumbers, rowNumber, rowOfZ, rowWritten, placeNumber, filledFrom}
+use Rattle.field.specs.Steps.Filling.{ResponsesOn, endWritten, rowsFilled, filledXY, filledZ}
 use Rattle.field.proofs.Patching.{same-test, within-says, within-holds, within-fails, within-join, patched-as, patched-where, patched-cong, patched-both}
 use Rattle.field.proofs.ResponseSamples.{first-sample, last-sample-xy, last-sample-z}
 use Rattle.field.proofs.Tables.{row-index, sampled-cong}
@@ -43,7 +44,7 @@ module _ (t : List TopologyLayer) (name : ℕ) where
   unfolding rowNumber endNumbers
   row-X0 = refl
 
-  row-X1 : rowNumber t 1481 name ≡ responseOn X t one name
+  row-X1 : rowNumber t 1481 name ≡ responseOn X t one64 name
   unfolding rowNumber endNumbers
   row-X1 = refl
 
@@ -51,7 +52,7 @@ module _ (t : List TopologyLayer) (name : ℕ) where
   unfolding rowNumber endNumbers
   row-Y0 = refl
 
-  row-Y1 : rowNumber t 1483 name ≡ responseOn Y t one name
+  row-Y1 : rowNumber t 1483 name ≡ responseOn Y t one64 name
   unfolding rowNumber endNumbers
   row-Y1 = refl
 
@@ -59,7 +60,7 @@ module _ (t : List TopologyLayer) (name : ℕ) where
   unfolding rowNumber endNumbers
   row-Z0 = refl
 
-  row-Z1 : rowNumber t 1485 name ≡ responseOn Z t one name
+  row-Z1 : rowNumber t 1485 name ≡ responseOn Z t one64 name
   unfolding rowNumber endNumbers
   row-Z1 = refl
 
@@ -309,7 +310,7 @@ module _ (l : Layout) (base : ℕ) (store : List Float) (some : 1 ≤ activeCoun
   abbrev number : ℕ → Float
   number i = placeNumber (topologyOf l) (activeNames l) (i - base)
 
-  pub filled-flat : length (topologyOf l) ≤ 1 → filledXY l base store ≡ filledFrom l base store
+  pub filled-flat : length (topologyOf l) ≤ 1 → filledXY l base store ≡ filledFrom (roomOf l) base store
   unfolding filledFrom
   filled-flat h =
       patched-both (rowsAt 1480 1484) (rowsAt 0 1400) number store
@@ -320,7 +321,7 @@ module _ (l : Layout) (base : ℕ) (store : List Float) (some : 1 ≤ activeCoun
       ∙ shared (leb base i) (within 0 1400 r) (within 1480 1484 r)
       ∙ ap (λ (b : Bool). leb base i && b) (flat-rows r ∙ ap (λ (b : Bool). ltb r 1486 && (b || not (rowOfZ r))) (sym (le-ltb 1 (length (topologyOf l)) h))))
 
-  pub filled-deep : 1 < length (topologyOf l) → filledZ l base (filledXY l base store) ≡ filledFrom l base store
+  pub filled-deep : 1 < length (topologyOf l) → filledZ l base (filledXY l base store) ≡ filledFrom (roomOf l) base store
   unfolding filledFrom
   filled-deep h =
       ap (λ (s : List Float). filledZ l base s) (patched-both (rowsAt 1480 1484) (rowsAt 0 1400) number store)

@@ -9,14 +9,16 @@ use lib.Ieee.{Float, nan}
 use lib.Ieee.Scale.{finite}
 use lib.ListN.{length, getD, take, drop, length-map, take-append-drop, List·getD-map}
 use lib.Seq.{slice, slice-empty, take-take, drop-append-le, length-take-le, length-slice}
-use Rattle.lists.specs.Lists.{all, concat}
+use Rattle.lists.specs.Lists.{allOf, flatten}
 use Rattle.lists.proofs.Loops.{slice-more}
 use Rattle.layout.specs.declared.Anchor.{Anchor}
-use Rattle.layout.specs.Topology.{TopologyRow, TopologyLayer, anchorX, noAnchor}
+use Rattle.layout.specs.Topology.{TopologyRow, TopologyLayer, anchorX}
+use Rattle.layout.specs.Steps.Starts.{noAnchor}
 use Rattle.layout.specs.Questions.{topologyY, topologyZ}
 use Rattle.field.specs.Knots.{X, Y, Z}
 use Rattle.field.specs.declared.Pick.{Pick}
-use Rattle.field.specs.Responses.{Weight, spread, alone, rowAnchors, layerAnchors, rowWeightsX, layerWeightsX, layerWeightsY, weightsOn, pickOf, layerPick, pickAdded, responseAdded, pickEnd, Grouped}
+use Rattle.field.specs.Responses.{Weight, weightsOf, alone, rowAnchors, layerAnchors, rowWeightsX, layerWeightsX, layerWeightsY, weightsOn, pickOf, layerPick}
+use Rattle.field.specs.Steps.Flat.{pickAdded, responseAdded, pickEnd, Grouped}
 use Rattle.field.proofs.ResponseRows.{weightsAdded, named}
 use Rattle.field.proofs.ResponseSpread.{placed, activeAnchor, slice-active, map-slice, gathered, gathered-same, gathered-concat, groups-added, groups-named, pick-added, pick-named}
 use Rattle.field.proofs.response.Picks.{getD-slice, moved-none}
@@ -42,9 +44,9 @@ module _ {A : Type 0} where
   pub slice-take : (a b n : ℕ) (xs : List A) → b ≤ n → slice a b (take n xs) ≡ slice a b xs
   slice-take a b n xs h = ap (drop a) (take-take b n xs h)
 
-  concat-append : (xss yss : List (List A)) → concat (xss ++ yss) ≡ concat xss ++ concat yss
+  concat-append : (xss yss : List (List A)) → flatten (xss ++ yss) ≡ flatten xss ++ flatten yss
   concat-append [] yss = refl
-  concat-append (xs ∷ xss) yss = ap (λ (r : List A). xs ++ r) (concat-append xss yss) ∙ sym (append-assoc xs (concat xss) (concat yss))
+  concat-append (xs ∷ xss) yss = ap (λ (r : List A). xs ++ r) (concat-append xss yss) ∙ sym (append-assoc xs (flatten xss) (flatten yss))
 
 map-append : {A B : Type 0} (f : A → B) (xs ys : List A) → map f (xs ++ ys) ≡ map f xs ++ map f ys
 map-append f [] ys = refl
@@ -59,7 +61,7 @@ abbrev pub layerRows : TopologyLayer → List TopologyRow
 layerRows l = l .rows
 
 abbrev pub rowsIn : List TopologyLayer → List TopologyRow
-rowsIn t = concat (map layerRows t)
+rowsIn t = flatten (map layerRows t)
 
 abbrev pub noTopologyRow : TopologyRow
 noTopologyRow = record { y = nan; anchors = [] }
@@ -88,12 +90,12 @@ rising f n h r (suc d) l =
 pub rising-to : (xs : List ℕ) (n : ℕ) → ((r : ℕ) → r < n → getD xs r 0 ≤ getD xs (r + 1) 0) → (r s : ℕ) → r ≤ s → s ≤ n → getD xs r 0 ≤ getD xs s 0
 rising-to xs n h r s k l = let e : r + (s - r) ≡ s = omega arith in rw e at (rising (λ (i : ℕ). getD xs i 0) n h r (s - r) (omega arith))
 
-rows-x : (u : Float) (t : List TopologyLayer) → weightsOn X t u ≡ concat (map (rowWeightsX u) (rowsIn t))
+rows-x : (u : Float) (t : List TopologyLayer) → weightsOn X t u ≡ flatten (map (rowWeightsX u) (rowsIn t))
 unfolding weightsOn layerWeightsX
 rows-x u [] = refl
 rows-x u (l ∷ t) =
-    ap (λ (r : List Weight). concat (map (rowWeightsX u) (l .rows)) ++ r) (rows-x u t)
-    ∙ sym (ap concat (map-append (rowWeightsX u) (l .rows) (rowsIn t)) ∙ concat-append (map (rowWeightsX u) (l .rows)) (map (rowWeightsX u) (rowsIn t)))
+    ap (λ (r : List Weight). flatten (map (rowWeightsX u) (l .rows)) ++ r) (rows-x u t)
+    ∙ sym (ap flatten (map-append (rowWeightsX u) (l .rows) (rowsIn t)) ∙ concat-append (map (rowWeightsX u) (l .rows)) (map (rowWeightsX u) (rowsIn t)))
 
 module _
     (names : List ℕ)
@@ -110,7 +112,7 @@ module _
     pub row-start-end : (i j : ℕ) → i ≤ j → j ≤ length t → getD rowStarts i 0 ≤ getD rowStarts j 0
     row-start-end i j h k = rising-to rowStarts (length t) (flat .rowsRise) i j h k
 
-    active-part : (a b : ℕ) → b ≤ getD starts (length (rowsIn t)) 0 → T (all (activeAnchor names) (slice a b anchors))
+    active-part : (a b : ℕ) → b ≤ getD starts (length (rowsIn t)) 0 → T (allOf (activeAnchor names) (slice a b anchors))
     active-part a b h = slice-active names anchors (getD starts (length (rowsIn t)) 0) a b (flat .within) (flat .actives) h
 
     -- ---- X: the rows are the groups, and each anchor is a part of its own
@@ -130,15 +132,15 @@ module _
           (getD-mapped alone (slice a b anchors) i noAnchor [] (omega arith) ∙ ap alone (getD-slice a b anchors i noAnchor (omega arith)))
 
       row-weights : (u : Float) (g : ℕ) → g < length (rowsIn t) →
-          spread (pickOf (slice (getD starts g 0) (getD starts (g + 1) 0) (map anchorX anchors)) u) (parts-x g) ≡ rowWeightsX u (getD (rowsIn t) g noTopologyRow)
+          weightsOf (pickOf (slice (getD starts g 0) (getD starts (g + 1) 0) (map anchorX anchors)) u) (parts-x g) ≡ rowWeightsX u (getD (rowsIn t) g noTopologyRow)
       unfolding parts-x rowWeightsX
       row-weights u g h =
           let e : slice (getD starts g 0) (getD starts (g + 1) 0) (map anchorX anchors) ≡ map anchorX (getD (rowsIn t) g noTopologyRow .anchors) =
           map-slice anchorX (getD starts g 0) (getD starts (g + 1) 0) anchors ∙ ap (map anchorX) (sym (flat .rowCut g h)) in
-          ap (λ (xs : List Float). spread (pickOf xs u) (map alone (getD (rowsIn t) g noTopologyRow .anchors))) e
+          ap (λ (xs : List Float). weightsOf (pickOf xs u) (map alone (getD (rowsIn t) g noTopologyRow .anchors))) e
 
       module _ (u : Float) (f : T (finite u)) where
-        all-x : gathered (λ (g : ℕ). spread (pickOf (slice (getD starts g 0) (getD starts (g + 1) 0) (map anchorX anchors)) u) (parts-x g)) (length (rowsIn t)) ≡ weightsOn X t u
+        all-x : gathered (λ (g : ℕ). weightsOf (pickOf (slice (getD starts g 0) (getD starts (g + 1) 0) (map anchorX anchors)) u) (parts-x g)) (length (rowsIn t)) ≡ weightsOn X t u
         all-x = gathered-same _ (λ (g : ℕ). rowWeightsX u (getD (rowsIn t) g noTopologyRow)) (length (rowsIn t)) (row-weights u) ∙ sym (rows-x u t ∙ gathered-concat (rowWeightsX u) (rowsIn t) noTopologyRow)
 
         pub added-x : (base : ℕ) (out : List Float) →
@@ -147,7 +149,7 @@ module _
             groups-added names anchors ones (map anchorX anchors) starts (length (rowsIn t)) k parts-x are-x u f base (length (rowsIn t)) out (le-refl (length (rowsIn t)))
             ∙ ap (λ (ws : List Weight). weightsAdded base names ws out) all-x
 
-        pub named-x : T (all (named names) (weightsOn X t u))
+        pub named-x : T (allOf (named names) (weightsOn X t u))
         named-x =
             rw (← all-x)
             (groups-named names anchors ones (map anchorX anchors) starts (length (rowsIn t)) k parts-x are-x u f
@@ -179,17 +181,17 @@ module _
           ∙ flat .rowCut (a + i) (omega arith))
 
       layer-weights : (u : Float) (g : ℕ) → g < length t →
-          spread (pickOf (slice (getD rowStarts g 0) (getD rowStarts (g + 1) 0) ys) u) (parts-y g) ≡ layerWeightsY u (getD t g noTopologyLayer)
+          weightsOf (pickOf (slice (getD rowStarts g 0) (getD rowStarts (g + 1) 0) ys) u) (parts-y g) ≡ layerWeightsY u (getD t g noTopologyLayer)
       unfolding parts-y layerWeightsY
       layer-weights u g h =
           let a = getD rowStarts g 0 in
           let b = getD rowStarts (g + 1) 0 in
           let e : slice a b ys ≡ map topologyY (getD t g noTopologyLayer .rows) =
           sym (slice-take a b (length (rowsIn t)) ys (row-within g h)) ∙ ap (slice a b) (sym (flat .yCut)) ∙ map-slice topologyY a b (rowsIn t) ∙ ap (map topologyY) (sym (flat .layerCut g h)) in
-          ap (λ (xs : List Float). spread (pickOf xs u) (map rowAnchors (getD t g noTopologyLayer .rows))) e
+          ap (λ (xs : List Float). weightsOf (pickOf xs u) (map rowAnchors (getD t g noTopologyLayer .rows))) e
 
       module _ (u : Float) (f : T (finite u)) where
-        all-y : gathered (λ (g : ℕ). spread (pickOf (slice (getD rowStarts g 0) (getD rowStarts (g + 1) 0) ys) u) (parts-y g)) (length t) ≡ weightsOn Y t u
+        all-y : gathered (λ (g : ℕ). weightsOf (pickOf (slice (getD rowStarts g 0) (getD rowStarts (g + 1) 0) ys) u) (parts-y g)) (length t) ≡ weightsOn Y t u
         unfolding weightsOn
         all-y = gathered-same _ (λ (g : ℕ). layerWeightsY u (getD t g noTopologyLayer)) (length t) (layer-weights u) ∙ sym (gathered-concat (layerWeightsY u) t noTopologyLayer)
 
@@ -197,7 +199,7 @@ module _
         added-y base out =
             groups-added names anchors starts ys rowStarts (length t) k parts-y are-y u f base (length t) out (le-refl (length t)) ∙ ap (λ (ws : List Weight). weightsAdded base names ws out) all-y
 
-        pub named-y : T (all (named names) (weightsOn Y t u))
+        pub named-y : T (allOf (named names) (weightsOn Y t u))
         named-y =
             rw (← all-y)
             (groups-named names anchors starts ys rowStarts (length t) k parts-y are-y u f
@@ -216,12 +218,12 @@ module _
         (starts-are : (i : ℕ) → i ≤ length t → getD layerStarts i 0 ≡ getD starts (getD rowStarts i 0) 0)
       where
         -- the anchors of the rows from a up to b
-        rows-anchors : (n a b : ℕ) → a + n ≡ b → b ≤ length (rowsIn t) → concat (map rowAnchors (slice a b (rowsIn t))) ≡ slice (getD starts a 0) (getD starts b 0) anchors
+        rows-anchors : (n a b : ℕ) → a + n ≡ b → b ≤ length (rowsIn t) → flatten (map rowAnchors (slice a b (rowsIn t))) ≡ slice (getD starts a 0) (getD starts b 0) anchors
         rows-anchors zero a b e h =
             let q : a ≡ b = omega arith in
             rw (q, slice-empty b (rowsIn t), slice-empty (getD starts b 0) anchors)
         rows-anchors (suc n) a b e h =
-            ap (λ (rs : List TopologyRow). concat (map rowAnchors rs)) (slice-more a b (rowsIn t) noTopologyRow (omega arith) h)
+            ap (λ (rs : List TopologyRow). flatten (map rowAnchors rs)) (slice-more a b (rowsIn t) noTopologyRow (omega arith) h)
             ∙ ap₂ (λ (x y : List Anchor). x ++ y) (flat .rowCut a (omega arith)) (rows-anchors n (a + 1) b (omega arith) h)
             ∙ slice-join (getD starts a 0) (getD starts (a + 1) 0) (getD starts b 0) anchors (flat .rise a (omega arith)) (start-end (a + 1) b (omega arith) h)
             (le-trans (start-end (a + 1) (length (rowsIn t)) (omega arith) (le-refl (length (rowsIn t)))) (flat .within))
@@ -234,10 +236,10 @@ module _
             let rise = flat .rowsRise i l in
             rw (zero-add i, starts-are i (omega arith), starts-are (i + 1) (omega arith))
             (getD-mapped layerAnchors t i noTopologyLayer [] l
-            ∙ ap (λ (rs : List TopologyRow). concat (map rowAnchors rs)) (flat .layerCut i l)
+            ∙ ap (λ (rs : List TopologyRow). flatten (map rowAnchors rs)) (flat .layerCut i l)
             ∙ rows-anchors (b - a) a b (omega arith) (le-trans (row-start-end (i + 1) (length t) (omega arith) (le-refl (length t))) (flat .rowsWithin)))
 
-        active-z : (i : ℕ) → i < depth → T (all (activeAnchor names) (slice (getD layerStarts (0 + i) 0) (getD layerStarts (0 + i + 1) 0) anchors))
+        active-z : (i : ℕ) → i < depth → T (allOf (activeAnchor names) (slice (getD layerStarts (0 + i) 0) (getD layerStarts (0 + i + 1) 0) anchors))
         active-z i h =
             rw (zero-add i, starts-are i (omega arith), starts-are (i + 1) (omega arith))
             (active-part (getD starts (getD rowStarts i 0) 0) (getD starts (getD rowStarts (i + 1) 0) 0)
@@ -250,6 +252,6 @@ module _
             ∙ pick-added names anchors layerStarts 0 depth (map layerAnchors t) are-z base (layerPick (take depth zs) u) out h
             ∙ rw (← zCut)
 
-        pub named-z : (u : Float) → pickEnd (layerPick (take depth zs) u) ≤ depth → T (all (named names) (weightsOn Z t u))
+        pub named-z : (u : Float) → pickEnd (layerPick (take depth zs) u) ≤ depth → T (allOf (named names) (weightsOn Z t u))
         unfolding weightsOn
         named-z u h = rw zCut (pick-named names anchors layerStarts 0 depth (map layerAnchors t) are-z (layerPick (take depth zs) u) h active-z)

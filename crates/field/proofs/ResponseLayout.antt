@@ -12,21 +12,22 @@ use lib.Ieee.Fits.{and-i, and-l, and-r}
 use lib.Ieee.Scale.{finite}
 use lib.ListN.{length, getD, take, length-map}
 use lib.Seq.{slice, getD-take, length-slice, length-take-le}
-use Rattle.doubles.specs.Arithmetic.{minusOne, one}
-use Rattle.doubles.specs.Arithmetic.{zero as zero64}
-use Rattle.doubles.specs.Range.{between}
-use Rattle.lists.specs.Lists.{all, filter, elem, allDistinct, total, chain}
+use Rattle.doubles.specs.Arithmetic.{minusOne64, one64, zero64}
+use Rattle.doubles.specs.Range.{isBetween}
+use Rattle.lists.specs.Lists.{allOf, filtered, elem, allDistinct, total, chain}
 use Rattle.lists.proofs.Takes.{map-take}
 use Rattle.layout.specs.declared.Layout.{Layout}
-use Rattle.layout.specs.Accepted.{Accepted}
+use Rattle.layout.specs.Steps.Accepted.{Accepted}
 use Rattle.layout.specs.Channels.{active, channelName, channelsOf, activeNames, activeCount}
 use Rattle.layout.specs.Questions.{inRoom, ordered, topologyY}
-use Rattle.layout.specs.Topology.{TopologyRow, TopologyLayer, rowsOf, topologyOf, usedLayers, usedRows, usedAnchors, anchorX, rowY, rowCount, layerZ, layerCount, startsFrom, anchorStarts, rowStarts, layerStarts, anchorPlace, noAnchor}
+use Rattle.layout.specs.Topology.{TopologyRow, TopologyLayer, rowsOf, topologyOf, usedLayers, usedRows, usedAnchors, anchorX, rowY, rowCount, layerZ, layerCount}
+use Rattle.layout.specs.Steps.Starts.{startsFrom, anchorStarts, rowStarts, layerStarts, anchorIndex, noAnchor}
 use Rattle.layout.proofs.TopologyStarts.{rows-take, rows-length}
 use Rattle.layout.proofs.TopologyFlat.{topology-rows, topology-y, topology-z, topology-length, topology-layer, topology-row}
 use Rattle.layout.proofs.TopologyRanges.{row-rises, row-end, row-most, anchor-rises, anchor-end, anchor-most}
 use Rattle.field.specs.Knots.{X, Y, Z, sample}
-use Rattle.field.specs.Responses.{responseOn, weightsOn, layerPick, pickEnd, responseAdded, responded, respondedZ, Parted, Grouped}
+use Rattle.field.specs.Responses.{responseOn, weightsOn, layerPick}
+use Rattle.field.specs.Steps.Flat.{pickEnd, responseAdded, responded, respondedZ, Parted, Grouped}
 use Rattle.field.proofs.ResponseRows.{weightsAdded, place-within, rows-hold}
 use Rattle.field.proofs.ResponseSpread.{all-in}
 use Rattle.field.proofs.ResponseAxes.{Flat, rowsIn, noTopologyRow, noTopologyLayer, slice-take, getD-mapped, rising-to, added-x, named-x, added-y, named-y, added-z, named-z}
@@ -48,29 +49,29 @@ not-map true false h t = absurd (h tt)
 not-map false e h t = tt
 
 module _ {A : Type 0} (f : A → ℕ) (p : A → Bool) where
-  elem-filter : (n : ℕ) (xs : List A) → T (elem n (map f (filter p xs))) → T (elem n (map f xs))
+  elem-filter : (n : ℕ) (xs : List A) → T (elem n (map f (filtered p xs))) → T (elem n (map f xs))
   elem-filter n [] t = t
   elem-filter n (x ∷ xs) t = go (p x) (elem-filter n xs) t
     where
-      go : (b : Bool) → (T (elem n (map f (filter p xs))) → T (elem n (map f xs))) → T (elem n (map f (cond b (x ∷ filter p xs) (filter p xs)))) → T (eqb (f x) n || elem n (map f xs))
-      go true h s = or-map (eqb (f x) n) (elem n (map f (filter p xs))) (elem n (map f xs)) h s
+      go : (b : Bool) → (T (elem n (map f (filtered p xs))) → T (elem n (map f xs))) → T (elem n (map f (cond b (x ∷ filtered p xs) (filtered p xs)))) → T (eqb (f x) n || elem n (map f xs))
+      go true h s = or-map (eqb (f x) n) (elem n (map f (filtered p xs))) (elem n (map f xs)) h s
       go false h s = or-right (eqb (f x) n) (elem n (map f xs)) (h s)
 
-  distinct-filter : (xs : List A) → T (allDistinct (map f xs)) → T (allDistinct (map f (filter p xs)))
+  distinct-filter : (xs : List A) → T (allDistinct (map f xs)) → T (allDistinct (map f (filtered p xs)))
   distinct-filter [] t = t
   distinct-filter (x ∷ xs) t = go (p x) (distinct-filter xs (and-r (not (elem (f x) (map f xs))) (allDistinct (map f xs)) t))
     where
-      go : (b : Bool) → T (allDistinct (map f (filter p xs))) → T (allDistinct (map f (cond b (x ∷ filter p xs) (filter p xs))))
+      go : (b : Bool) → T (allDistinct (map f (filtered p xs))) → T (allDistinct (map f (cond b (x ∷ filtered p xs) (filtered p xs))))
       go true d =
-          and-i (not (elem (f x) (map f (filter p xs)))) (allDistinct (map f (filter p xs)))
-          (not-map (elem (f x) (map f (filter p xs))) (elem (f x) (map f xs)) (elem-filter (f x) xs) (and-l (not (elem (f x) (map f xs))) (allDistinct (map f xs)) t)) d
+          and-i (not (elem (f x) (map f (filtered p xs)))) (allDistinct (map f (filtered p xs)))
+          (not-map (elem (f x) (map f (filtered p xs))) (elem (f x) (map f xs)) (elem-filter (f x) xs) (and-l (not (elem (f x) (map f xs))) (allDistinct (map f xs)) t)) d
       go false d = d
 
 -- ---- ordered coordinates are finite
 pub ordered-finite : (xs : List Float) (i : ℕ) → T (ordered xs) → i < length xs → T (finite (getD xs i nan))
 ordered-finite xs i t h =
     let x = getD xs i nan in
-    and-l (finite x) (between minusOne one x) (all-in inRoom nan xs i (and-l (all inRoom xs) (chain lt xs) t) h)
+    and-l (finite x) (isBetween minusOne64 one64 x) (all-in inRoom nan xs i (and-l (allOf inRoom xs) (chain lt xs) t) h)
 
 part-finite : (v : List Float) (a b i : ℕ) → b ≤ length v → T (ordered (slice a b v)) → a ≤ i → i < b → T (finite (getD v i nan))
 part-finite v a b i long t h k =
@@ -128,14 +129,14 @@ module _ (l : Layout) (layers : length (l .layers) ≡ 4) (rows : length (l .row
       }
 
   -- ---- what the code asks of the lists
-  place-small : (i : ℕ) → i < length (usedAnchors l) → getD (map (anchorPlace l) (l .anchors)) i 0 < 24
+  place-small : (i : ℕ) → i < length (usedAnchors l) → getD (map (anchorIndex l) (l .anchors)) i 0 < 24
   place-small i h =
       let few = a .fewActive in
       let many = a .mostAnchors in
-      rw (getD-mapped (anchorPlace l) (l .anchors) i noAnchor 0 (omega arith)) (le-trans (place-within (getD (l .anchors) i noAnchor .name) (activeNames l) (a .anchorActive i h)) few)
+      rw (getD-mapped (anchorIndex l) (l .anchors) i noAnchor 0 (omega arith)) (le-trans (place-within (getD (l .anchors) i noAnchor .name) (activeNames l) (a .anchorActive i h)) few)
 
-  places-length : length (map (anchorPlace l) (l .anchors)) ≡ 24
-  places-length = length-map (l .anchors) (anchorPlace l) ∙ anchors
+  places-length : length (map (anchorIndex l) (l .anchors)) ≡ 24
+  places-length = length-map (l .anchors) (anchorIndex l) ∙ anchors
 
   anchor-starts-length : length (anchorStarts l) ≡ 25
   anchor-starts-length = starts-size (map rowCount (l .rows)) 0 ∙ ap suc (length-map (l .rows) rowCount ∙ rows)
@@ -160,7 +161,7 @@ module _ (l : Layout) (layers : length (l .layers) ≡ 4) (rows : length (l .row
         finites = λ g i h j k. part-finite (map anchorX (l .anchors)) (getD (anchorStarts l) g 0) (getD (anchorStarts l) (g + 1) 0) i (omega (arith, upTo g h)) (rw add-one (a .xsOrdered g h)) j k;
       }
 
-  pub x-parted : Parted (map (anchorPlace l) (l .anchors)) ones (getD (anchorStarts l) rowTotal 0)
+  pub x-parted : Parted (map (anchorIndex l) (l .anchors)) ones (getD (anchorStarts l) rowTotal 0)
   x-parted =
       let many = a .mostAnchors in
       let end = anchor-end l layers rows a in
@@ -185,7 +186,7 @@ module _ (l : Layout) (layers : length (l .layers) ≡ 4) (rows : length (l .row
         finites = λ g i h j k. part-finite (map rowY (l .rows)) (getD (rowStarts l) g 0) (getD (rowStarts l) (g + 1) 0) i (omega (arith, row-most l layers rows a (g + 1) (omega arith))) (rw add-one (a .ysOrdered g h)) j k;
       }
 
-  pub y-parted : Parted (map (anchorPlace l) (l .anchors)) (anchorStarts l) (getD (rowStarts l) (l .depth) 0)
+  pub y-parted : Parted (map (anchorIndex l) (l .anchors)) (anchorStarts l) (getD (rowStarts l) (l .depth) 0)
   y-parted =
       let most = a .mostRows in
       let many = a .mostAnchors in
@@ -208,7 +209,7 @@ module _ (l : Layout) (layers : length (l .layers) ≡ 4) (rows : length (l .row
       let few = a .fewLayers in
       getD-mapped (λ (r : ℕ). getD (anchorStarts l) r 0) (rowStarts l) i 0 0 (omega (arith, row-starts-length))
 
-  pub z-parted : Parted (map (anchorPlace l) (l .anchors)) (layerStarts l) (l .depth)
+  pub z-parted : Parted (map (anchorIndex l) (l .anchors)) (layerStarts l) (l .depth)
   z-parted =
       let few = a .fewLayers in
       let many = a .mostAnchors in
@@ -234,20 +235,20 @@ module _ (l : Layout) (layers : length (l .layers) ≡ 4) (rows : length (l .row
   topology-grouped-y = rw depth-is y-grouped
 
   adds-x : (i : ℕ) → i < 20 → (out : List Float) →
-      responseAdded (i * 24) (map (anchorPlace l) (l .anchors)) ones (map anchorX (l .anchors)) (anchorStarts l) rowTotal (sample X i) out ≡ weightsAdded (i * 24) (activeNames l) (weightsOn X (topologyOf l) (sample X i)) out
+      responseAdded (i * 24) (map (anchorIndex l) (l .anchors)) ones (map anchorX (l .anchors)) (anchorStarts l) rowTotal (sample X i) out ≡ weightsAdded (i * 24) (activeNames l) (weightsOn X (topologyOf l) (sample X i)) out
   adds-x i h out =
       rw (← rows-count)
       (added-x (activeNames l) (topologyOf l) (l .anchors) (anchorStarts l) (rowStarts l) (map rowY (l .rows)) flat ones single-anchor topology-grouped-x (sample X i) (sample-finite X i h) (i * 24) out)
 
   adds-y : (i : ℕ) → i < 20 → (out : List Float) →
-      responseAdded (i * 24) (map (anchorPlace l) (l .anchors)) (anchorStarts l) (map rowY (l .rows)) (rowStarts l) (l .depth) (sample Y i) out ≡ weightsAdded (i * 24) (activeNames l) (weightsOn Y (topologyOf l) (sample Y i)) out
+      responseAdded (i * 24) (map (anchorIndex l) (l .anchors)) (anchorStarts l) (map rowY (l .rows)) (rowStarts l) (l .depth) (sample Y i) out ≡ weightsAdded (i * 24) (activeNames l) (weightsOn Y (topologyOf l) (sample Y i)) out
   adds-y i h out =
-      ap (λ (n : ℕ). responseAdded (i * 24) (map (anchorPlace l) (l .anchors)) (anchorStarts l) (map rowY (l .rows)) (rowStarts l) n (sample Y i) out) (sym depth-is)
+      ap (λ (n : ℕ). responseAdded (i * 24) (map (anchorIndex l) (l .anchors)) (anchorStarts l) (map rowY (l .rows)) (rowStarts l) n (sample Y i) out) (sym depth-is)
       ∙ (added-y (activeNames l) (topologyOf l) (l .anchors) (anchorStarts l) (rowStarts l) (map rowY (l .rows)) flat topology-grouped-y (sample Y i) (sample-finite Y i h) (i * 24) out)
 
   module _ (out : List Float) where
     pub responses-x : 480 ≤ length out → ((i : ℕ) → i < 480 → getD out i nan ≡ zero64) → (s k : ℕ) → s < 20 → k < activeCount l →
-        getD (responded (map (anchorPlace l) (l .anchors)) ones (map anchorX (l .anchors)) (anchorStarts l) rowTotal 20 out) (s * 24 + k) nan ≡ responseOn X (topologyOf l) (sample X s) (getD (activeNames l) k 0)
+        getD (responded (map (anchorIndex l) (l .anchors)) ones (map anchorX (l .anchors)) (anchorStarts l) rowTotal 20 out) (s * 24 + k) nan ≡ responseOn X (topologyOf l) (sample X s) (getD (activeNames l) k 0)
     unfolding responded responseOn
     responses-x long zeros s k h m =
         rows-hold (activeNames l) names-distinct (a .fewActive) 20 (λ (i : ℕ). weightsOn X (topologyOf l) (sample X i))
@@ -257,7 +258,7 @@ module _ (l : Layout) (layers : length (l .layers) ≡ 4) (rows : length (l .row
         out long zeros 20 s k (le-refl 20) h m
 
     pub responses-y : 480 ≤ length out → ((i : ℕ) → i < 480 → getD out i nan ≡ zero64) → (s k : ℕ) → s < 20 → k < activeCount l →
-        getD (responded (map (anchorPlace l) (l .anchors)) (anchorStarts l) (map rowY (l .rows)) (rowStarts l) (l .depth) 20 out) (s * 24 + k) nan ≡ responseOn Y (topologyOf l) (sample Y s) (getD (activeNames l) k 0)
+        getD (responded (map (anchorIndex l) (l .anchors)) (anchorStarts l) (map rowY (l .rows)) (rowStarts l) (l .depth) 20 out) (s * 24 + k) nan ≡ responseOn Y (topologyOf l) (sample Y s) (getD (activeNames l) k 0)
     unfolding responded responseOn
     responses-y long zeros s k h m =
         rows-hold (activeNames l) names-distinct (a .fewActive) 20 (λ (i : ℕ). weightsOn Y (topologyOf l) (sample Y i))
@@ -273,7 +274,7 @@ module _ (l : Layout) (layers : length (l .layers) ≡ 4) (rows : length (l .row
         layers-pick-end (map layerZ (l .layers)) (l .depth) (sample Z s) (omega (arith, length-map (l .layers) layerZ)) some (sample-finite Z s h) (z-finite 0 some)
 
     pub responses-z : 192 ≤ length out → ((i : ℕ) → i < 192 → getD out i nan ≡ zero64) → (s k : ℕ) → s < 8 → k < activeCount l →
-        getD (respondedZ (map (anchorPlace l) (l .anchors)) (layerStarts l) (map layerZ (l .layers)) (l .depth) 8 out) (s * 24 + k) nan ≡ responseOn Z (topologyOf l) (sample Z s) (getD (activeNames l) k 0)
+        getD (respondedZ (map (anchorIndex l) (l .anchors)) (layerStarts l) (map layerZ (l .layers)) (l .depth) 8 out) (s * 24 + k) nan ≡ responseOn Z (topologyOf l) (sample Z s) (getD (activeNames l) k 0)
     unfolding respondedZ responseOn
     responses-z long zeros s k h m =
         rows-hold (activeNames l) names-distinct (a .fewActive) 8 (λ (i : ℕ). weightsOn Z (topologyOf l) (sample Z i))

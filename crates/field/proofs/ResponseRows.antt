@@ -12,22 +12,22 @@ use lib.Ieee.{Float, nan}
 use lib.Ieee.Fits.{and-l, and-r}
 use lib.ListN.{length, getD, set, length-set}
 use lib.Seq.{getD-set-same, getD-set-other, append-snoc}
-use Rattle.doubles.specs.Arithmetic.{_⊕_}
-use Rattle.doubles.specs.Arithmetic.{zero as zero64}
-use Rattle.lists.specs.Lists.{all, elem, allDistinct, placeOf}
+use Rattle.doubles.specs.Arithmetic.{_⊕_, zero64}
+use Rattle.lists.specs.Lists.{allOf, elem, allDistinct, indexOf}
 use Rattle.lists.proofs.Tests.{elem-place}
-use Rattle.field.specs.Responses.{Weight, addedUp, run}
+use Rattle.field.specs.Responses.{Weight, addedUp}
+use Rattle.field.specs.Steps.Flat.{iterate}
 
 -- ---- the place of a name in a list
 
-pub place-within : (n : ℕ) (names : List ℕ) → T (elem n names) → placeOf n names < length names
-place-within n names t = ltb→lt (placeOf n names) (length names) (rw (elem-place n names) at t)
+pub place-within : (n : ℕ) (names : List ℕ) → T (elem n names) → indexOf n names < length names
+place-within n names t = ltb→lt (indexOf n names) (length names) (rw (elem-place n names) at t)
 
-place-holds : (n : ℕ) (names : List ℕ) → T (elem n names) → getD names (placeOf n names) 0 ≡ n
+place-holds : (n : ℕ) (names : List ℕ) → T (elem n names) → getD names (indexOf n names) 0 ≡ n
 place-holds n [] t = absurd t
 place-holds n (x ∷ xs) t = go (eqb x n) refl (place-holds n xs) t
   where
-    go : (b : Bool) → eqb x n ≡ b → (T (elem n xs) → getD xs (placeOf n xs) 0 ≡ n) → T (b || elem n xs) → getD (x ∷ xs) (cond b 0 (1 + placeOf n xs)) 0 ≡ n
+    go : (b : Bool) → eqb x n ≡ b → (T (elem n xs) → getD xs (indexOf n xs) 0 ≡ n) → T (b || elem n xs) → getD (x ∷ xs) (cond b 0 (1 + indexOf n xs)) 0 ≡ n
     go true e f h = eqb-true x n e
     go false e f h = rw one-add (f h)
 
@@ -45,7 +45,7 @@ not-both true p q = p
 not-both false p q = q
 
 -- no two names are equal, so the k-th has place k
-place-at : (names : List ℕ) (k : ℕ) → T (allDistinct names) → k < length names → placeOf (getD names k 0) names ≡ k
+place-at : (names : List ℕ) (k : ℕ) → T (allDistinct names) → k < length names → indexOf (getD names k 0) names ≡ k
 place-at [] k d h = absurd (omega arith)
 place-at (x ∷ xs) zero d h = rw (eq-eqb x x refl)
 place-at (x ∷ xs) (suc k) d h =
@@ -54,7 +54,7 @@ place-at (x ∷ xs) (suc k) d h =
 
 -- ---- one weight after another
 abbrev pub weightAdded : ℕ → List ℕ → Weight → List Float → List Float
-weightAdded base names w out = set out (base + placeOf (w .name) names) (getD out (base + placeOf (w .name) names) nan ⊕ w .weight)
+weightAdded base names w out = set out (base + indexOf (w .name) names) (getD out (base + indexOf (w .name) names) nan ⊕ w .weight)
 
 abbrev pub weightsAdded : ℕ → List ℕ → List Weight → List Float → List Float
 weightsAdded base names [] out = out
@@ -78,7 +78,7 @@ module _ (base : ℕ) (names : List ℕ) (distinct : T (allDistinct names)) (few
   row-step done w out t h r k l = go (eqb p k) refl
     where
       p : ℕ
-      p = placeOf (w .name) names
+      p = indexOf (w .name) names
 
       inside : p < length names
       inside = place-within (w .name) names t
@@ -93,30 +93,30 @@ module _ (base : ℕ) (names : List ℕ) (distinct : T (allDistinct names)) (few
       go true e = rw (← eqb-true p k e) here
       go false e =
           let n = eqb-false p k e in
-          let other : w .name ≡ getD names k 0 → ⊥ = λ q. n (ap (λ (m : ℕ). placeOf m names) q ∙ place-at names k distinct l) in
+          let other : w .name ≡ getD names k 0 → ⊥ = λ q. n (ap (λ (m : ℕ). indexOf m names) q ∙ place-at names k distinct l) in
           getD-set-other out (base + p) (base + k) (getD out (base + p) nan ⊕ w .weight) nan (λ q. n (omega arith))
           ∙ r k l
           ∙ sym (added-last zero64 (getD names k 0) done w ∙ rw (ne-eqb (w .name) (getD names k 0) other))
 
-  pub row-steps : (done ws : List Weight) (out : List Float) → T (all (named names) ws) → base + 24 ≤ length out → Row done out → Row (done ++ ws) (weightsAdded base names ws out)
+  pub row-steps : (done ws : List Weight) (out : List Float) → T (allOf (named names) ws) → base + 24 ≤ length out → Row done out → Row (done ++ ws) (weightsAdded base names ws out)
   row-steps done [] out t h r = rw (append-nil done) r
   row-steps done (w ∷ ws) out t h r =
       rw (← append-snoc done w ws)
-      (row-steps (done ++ (w ∷ [])) ws (weightAdded base names w out) (and-r (named names w) (all (named names) ws) t) (rw length-set h)
-      (row-step done w out (and-l (named names w) (all (named names) ws) t) h r))
+      (row-steps (done ++ (w ∷ [])) ws (weightAdded base names w out) (and-r (named names w) (allOf (named names) ws) t) (rw length-set h)
+      (row-step done w out (and-l (named names w) (allOf (named names) ws) t) h r))
 
   -- what lies outside the row stays
-  pub row-frame : (ws : List Weight) (out : List Float) (i : ℕ) → T (all (named names) ws) → (i < base) ⊎ (base + 24 ≤ i) → getD (weightsAdded base names ws out) i nan ≡ getD out i nan
+  pub row-frame : (ws : List Weight) (out : List Float) (i : ℕ) → T (allOf (named names) ws) → (i < base) ⊎ (base + 24 ≤ i) → getD (weightsAdded base names ws out) i nan ≡ getD out i nan
   row-frame [] out i t o = refl
   row-frame (w ∷ ws) out i t o =
-      let inside = place-within (w .name) names (and-l (named names w) (all (named names) ws) t) in
-      let other : i ≡ base + placeOf (w .name) names → ⊥ = λ e. ⊎-elim (λ h. omega arith) (λ h. omega arith) o in
-      row-frame ws (weightAdded base names w out) i (and-r (named names w) (all (named names) ws) t) o
-      ∙ getD-set-other out (base + placeOf (w .name) names) i (getD out (base + placeOf (w .name) names) nan ⊕ w .weight) nan other
+      let inside = place-within (w .name) names (and-l (named names w) (allOf (named names) ws) t) in
+      let other : i ≡ base + indexOf (w .name) names → ⊥ = λ e. ⊎-elim (λ h. omega arith) (λ h. omega arith) o in
+      row-frame ws (weightAdded base names w out) i (and-r (named names w) (allOf (named names) ws) t) o
+      ∙ getD-set-other out (base + indexOf (w .name) names) i (getD out (base + indexOf (w .name) names) nan ⊕ w .weight) nan other
 
 pub weights-length : (base : ℕ) (names : List ℕ) (ws : List Weight) (out : List Float) → length (weightsAdded base names ws out) ≡ length out
 weights-length base names [] out = refl
-weights-length base names (w ∷ ws) out = weights-length base names ws (weightAdded base names w out) ∙ length-set out (base + placeOf (w .name) names) (getD out (base + placeOf (w .name) names) nan ⊕ w .weight)
+weights-length base names (w ∷ ws) out = weights-length base names ws (weightAdded base names w out) ∙ length-set out (base + indexOf (w .name) names) (getD out (base + indexOf (w .name) names) nan ⊕ w .weight)
 
 pub weights-append : (base : ℕ) (names : List ℕ) (ws vs : List Weight) (out : List Float) → weightsAdded base names (ws ++ vs) out ≡ weightsAdded base names vs (weightsAdded base names ws out)
 weights-append base names [] vs out = refl
@@ -129,38 +129,38 @@ module _
     (few : length names ≤ 24)
     (N : ℕ)
     (ws : ℕ → List Weight)
-    (every : (s : ℕ) → s < N → T (all (named names) (ws s)))
+    (every : (s : ℕ) → s < N → T (allOf (named names) (ws s)))
     (add : ℕ → List Float → List Float)
     (adds : (s : ℕ) → s < N → (out : List Float) → add s out ≡ weightsAdded (s * 24) names (ws s) out)
     (out : List Float)
     (long : N * 24 ≤ length out)
   where
-    pub rows-length : (n : ℕ) → n ≤ N → length (run n add out) ≡ length out
-    unfolding run
+    pub rows-length : (n : ℕ) → n ≤ N → length (iterate n add out) ≡ length out
+    unfolding iterate
     rows-length zero h = refl
-    rows-length (suc n) h = ap length (adds n h (run n add out)) ∙ weights-length (n * 24) names (ws n) (run n add out) ∙ rows-length n (omega arith)
+    rows-length (suc n) h = ap length (adds n h (iterate n add out)) ∙ weights-length (n * 24) names (ws n) (iterate n add out) ∙ rows-length n (omega arith)
 
     -- rows to come are as they were
-    rows-later : (n s k : ℕ) → n ≤ s → s < N → k < 24 → getD (run n add out) (s * 24 + k) nan ≡ getD out (s * 24 + k) nan
-    unfolding run
+    rows-later : (n s k : ℕ) → n ≤ s → s < N → k < 24 → getD (iterate n add out) (s * 24 + k) nan ≡ getD out (s * 24 + k) nan
+    unfolding iterate
     rows-later zero s k h l m = refl
     rows-later (suc n) s k h l m =
-        ap (λ (o : List Float). getD o (s * 24 + k) nan) (adds n (omega arith) (run n add out))
-        ∙ row-frame (n * 24) names distinct few (ws n) (run n add out) (s * 24 + k) (every n (omega arith)) (inr (omega arith))
+        ap (λ (o : List Float). getD o (s * 24 + k) nan) (adds n (omega arith) (iterate n add out))
+        ∙ row-frame (n * 24) names distinct few (ws n) (iterate n add out) (s * 24 + k) (every n (omega arith)) (inr (omega arith))
         ∙ rows-later n s k (omega arith) l m
 
     module _ (zeros : (i : ℕ) → i < N * 24 → getD out i nan ≡ zero64) where
-      pub rows-hold : (n s k : ℕ) → n ≤ N → s < n → k < length names → getD (run n add out) (s * 24 + k) nan ≡ addedUp zero64 (getD names k 0) (ws s)
-      unfolding run addedUp
+      pub rows-hold : (n s k : ℕ) → n ≤ N → s < n → k < length names → getD (iterate n add out) (s * 24 + k) nan ≡ addedUp zero64 (getD names k 0) (ws s)
+      unfolding iterate addedUp
       rows-hold zero s k h l m = absurd (omega arith)
       rows-hold (suc n) s k h l m =
-          ap (λ (o : List Float). getD o (s * 24 + k) nan) (adds n h (run n add out)) ∙ go (eqb s n) refl (λ q. rows-hold n s k (omega arith) q m)
+          ap (λ (o : List Float). getD o (s * 24 + k) nan) (adds n h (iterate n add out)) ∙ go (eqb s n) refl (λ q. rows-hold n s k (omega arith) q m)
         where
-          go : (b : Bool) → eqb s n ≡ b → (s < n → getD (run n add out) (s * 24 + k) nan ≡ addedUp zero64 (getD names k 0) (ws s)) → getD (weightsAdded (n * 24) names (ws n) (run n add out)) (s * 24 + k) nan ≡ addedUp zero64 (getD names k 0) (ws s)
+          go : (b : Bool) → eqb s n ≡ b → (s < n → getD (iterate n add out) (s * 24 + k) nan ≡ addedUp zero64 (getD names k 0) (ws s)) → getD (weightsAdded (n * 24) names (ws n) (iterate n add out)) (s * 24 + k) nan ≡ addedUp zero64 (getD names k 0) (ws s)
           go true e f =
               rw (eqb-true s n e)
-              (row-steps (n * 24) names distinct few [] (ws n) (run n add out) (every n h) (rw (rows-length n (omega arith)) (omega arith))
+              (row-steps (n * 24) names distinct few [] (ws n) (iterate n add out) (every n h) (rw (rows-length n (omega arith)) (omega arith))
               (λ j i. rows-later n n j (omega arith) h (omega arith) ∙ zeros (n * 24 + j) (omega arith)) k m)
           go false e f =
               let d = eqb-false s n e in
-              row-frame (n * 24) names distinct few (ws n) (run n add out) (s * 24 + k) (every n h) (inl (omega arith)) ∙ f (omega arith)
+              row-frame (n * 24) names distinct few (ws n) (iterate n add out) (s * 24 + k) (every n h) (inl (omega arith)) ∙ f (omega arith)

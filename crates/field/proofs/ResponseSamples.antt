@@ -8,21 +8,21 @@ use lib.Dec.{T}
 use lib.Ieee.{div, ofInt, round}
 use lib.Ieee.Scale.{finite}
 use lib.Ieee.Fits.{and-l, and-r}
-use Rattle.doubles.specs.Arithmetic.{zero, one}
+use Rattle.doubles.specs.Arithmetic.{zero64, one64}
 use Rattle.field.specs.Knots.{Axis, X, Y, Z, steps, sample, sampleCount}
 
 -- ---- the ends
-pub first-sample : (a : Axis) → sample a 0 ≡ zero
+pub first-sample : (a : Axis) → sample a 0 ≡ zero64
 unfolding div ofInt round
 first-sample X = refl
 first-sample Y = refl
 first-sample Z = refl
 
-pub last-sample-xy : steps 19 19 ≡ one
+pub last-sample-xy : steps 19 19 ≡ one64
 unfolding div ofInt round
 last-sample-xy = refl
 
-pub last-sample-z : steps 7 7 ≡ one
+pub last-sample-z : steps 7 7 ≡ one64
 unfolding div ofInt round
 last-sample-z = refl
 

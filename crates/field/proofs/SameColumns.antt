@@ -12,7 +12,7 @@ use lib.Ieee.Bits.{ofBits-toBits}
 use lib.ListN.{length, getD, set, length-set}
 use lib.Seq.{getD-set-same, getD-set-other}
 use Rattle.field.specs.Tables.{sampledOver}
-use Rattle.field.specs.Columns.{patternAt, sameFrom, sameColumn, firstFrom, firstSame, Firsts}
+use Rattle.field.specs.Steps.Columns.{patternAt, sameFrom, sameColumn, firstFrom, firstSame, Firsts}
 use Rattle.field.proofs.Tables.{sampled-cong}
 
 -- ---- a turn of each loop

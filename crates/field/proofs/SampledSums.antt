@@ -9,8 +9,7 @@ use lib.Ieee.{Float, binary64, fits, lt, le}
 use lib.Ieee.Scale.{finite}
 use lib.ListN.{length, take, getD, set}
 use lib.Seq.{slice, slice-cons, slice-empty, take-suc-set}
-use Rattle.doubles.specs.Arithmetic.{_⊕_, _⊗_}
-use Rattle.doubles.specs.Arithmetic.{zero as zero64}
+use Rattle.doubles.specs.Arithmetic.{_⊕_, _⊗_, zero64}
 use Rattle.approximations.specs.Log2.{log2Of}
 use Rattle.approximations.specs.Powers.{powerOf}
 use Rattle.doubles.proofs.Signs.{clear}
@@ -19,7 +18,7 @@ use Rattle.approximations.proofs.Laws.{exp2-finite, exp2-zero}
 use Rattle.extent.specs.Kernel.{positive, shapedOf}
 use Rattle.extent.proofs.KernelCases.{shaped-not, shaped-good, shaped-bad}
 use Rattle.field.specs.Tables.{addSample, sampledOver}
-use Rattle.field.specs.Sums.{counts, productsOf, sumFrom}
+use Rattle.field.specs.Steps.Sums.{counts, productsOf, sumFrom}
 use Rattle.field.proofs.Tables.{sampledOver-fits, sampledOver-clear}
 
 -- ---- the power of a value above 0 is its shaped value

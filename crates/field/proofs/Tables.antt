@@ -9,8 +9,7 @@ use borrow.Author.Tests.{lt-ltb, le-ltb}
 use lib.Dec.{T}
 use lib.Ieee.{Float, binary64, le, lt, fits}
 use lib.ListN.{length}
-use Rattle.doubles.specs.Arithmetic.{_⊕_, _⊗_}
-use Rattle.doubles.specs.Arithmetic.{zero as zero64}
+use Rattle.doubles.specs.Arithmetic.{_⊕_, _⊗_, zero64}
 use Rattle.approximations.specs.Exp2.{exp2Of}
 use Rattle.approximations.specs.Log2.{log2Of}
 use Rattle.doubles.proofs.Signs.{clear}

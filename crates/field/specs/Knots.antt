@@ -3,7 +3,7 @@ use Prim.Native.Nat.{ℕ}
 use mathlib.Core.Bool.{Bool, true, false}
 use lib.IntN.{pos}
 use lib.Ieee.{Float}
-use Rattle.doubles.specs.Arithmetic.{_⊗_, _⊘_, dec, whole}
+use Rattle.doubles.specs.Arithmetic.{_⊗_, _⊘_, dec, fromInt}
 
 pub data Axis : Type 0 where
   X Y Z : Axis
@@ -15,7 +15,7 @@ isZ Z = true
 
 -- i / n
 abbrev pub steps : ℕ → ℕ → Float
-steps n i = whole (pos i) ⊘ whole (pos n)
+steps n i = fromInt (pos i) ⊘ fromInt (pos n)
 
 -- samples are i / 19 on X and Y, i / 7 on Z
 abbrev pub sampleCount : Axis → ℕ
@@ -36,4 +36,4 @@ centreKnot Z i = steps 3 i
 
 -- radius knots 0.7 × i / 19
 abbrev pub radiusKnot : ℕ → Float
-radiusKnot i = dec 7 1 ⊗ whole (pos i) ⊘ whole (pos 19)
+radiusKnot i = dec 7 1 ⊗ fromInt (pos i) ⊘ fromInt (pos 19)

@@ -5,8 +5,7 @@ use mathlib.Core.List.{List}
 use lib.Dec.{ltb}
 use lib.Ieee.{Float, nan, le}
 use lib.ListN.{getD}
-use Rattle.doubles.specs.Arithmetic.{_⊕_, _⊗_}
-use Rattle.doubles.specs.Arithmetic.{zero as zero64}
+use Rattle.doubles.specs.Arithmetic.{_⊕_, _⊗_, zero64}
 use Rattle.layout.specs.Topology.{TopologyLayer}
 use Rattle.extent.specs.Kernel.{kernelOf, shapedOf, exponentOf}
 use Rattle.field.specs.Knots.{Axis, X, Y, isZ, sampleCount, sample, centreKnot, radiusKnot}

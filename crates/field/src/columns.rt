@@ -2,7 +2,7 @@
 ghost use mathlib.Core.Path.{_≡_};
 ghost use Prim.Native.Nat.{_≤_, _<_};
 ghost use lib.ListN.{length};
-ghost use Rattle.field.specs.Columns.{sameColumn, firstSame, Firsts};
+ghost use Rattle.field.specs.Steps.Columns.{sameColumn, firstSame, Firsts};
 use doubles::bits_of;
 
 // Whether channels j and k have the same responses, bit for bit, at the first samples.

@@ -3,7 +3,7 @@ ghost use mathlib.Core.Path.{_≡_};
 ghost use Prim.Native.Nat.{_≤_};
 ghost use Rattle.field.specs.Knots.{steps, radiusKnot};
 
-const MAX_RADIUS: f64 = 0.7;
+pub const MAX_RADIUS: f64 = 0.7;
 
 // i / n: the samples i / 19 on X and Y and i / 7 on Z, and the centre knots i / 34 and i / 3.
 pub(crate) fn step(i: usize, n: usize) -> f64

@@ -12,14 +12,15 @@ ghost use lib.Ieee.{nan};
 ghost use lib.Ieee.Scale.{finite};
 ghost use lib.ListN.{length, getD, take};
 ghost use lib.Seq.{slice};
-ghost use Rattle.field.specs.Responses.{twoAt, below, pickOf, layerPick, moved, pickEnd, addedAt, partAt, pickAdded, responseAdded, responded, respondedZ, Parted, Grouped};
+ghost use Rattle.field.specs.Responses.{twoAt, countBelow, pickOf, layerPick};
+ghost use Rattle.field.specs.Steps.Flat.{shifted, pickEnd, addedAt, partAt, pickAdded, responseAdded, responded, respondedZ, Parted, Grouped};
 use crate::Pick;
 use crate::knots::step;
 use approximations::cosine;
 use approximations::sine;
 use doubles::floor;
 
-const PI: f64 = 3.141592653589793;
+pub const PI: f64 = 3.141592653589793;
 
 // The two weights at t between coordinate i and the next.
 fn pair(i: usize, t: f64) -> Pick
@@ -31,7 +32,7 @@ fn pair(i: usize, t: f64) -> Pick
 // The first place from a on whose coordinate is not below u; b where there is none.
 fn first_from(v: &[f64], a: usize, b: usize, u: f64) -> usize
     requires { ⌜ (a ≤ b) × (b ≤ length (now v)) ⌝ }
-    ensures { λ r. ⌜ r ≡ a + below u (slice a b (now (v .entry))) ⌝ }
+    ensures { λ r. ⌜ r ≡ a + countBelow u (slice a b (now (v .entry))) ⌝ }
 {
     let mut i = a;
     while i < b {
@@ -47,7 +48,7 @@ fn first_from(v: &[f64], a: usize, b: usize, u: f64) -> usize
 fn neighbours(v: &[f64], a: usize, b: usize, u: f64) -> Pick
     requires { ⌜ (a < b) × (b ≤ length (now v)) ⌝ }
     requires { ⌜ T (finite u) × T (finite (getD (now v) a nan)) × T (finite (getD (now v) (b - 1) nan)) ⌝ }
-    ensures { λ r. ⌜ r ≡ moved a (pickOf (slice a b (now (v .entry))) u) ⌝ }
+    ensures { λ r. ⌜ r ≡ shifted a (pickOf (slice a b (now (v .entry))) u) ⌝ }
 {
     if u <= v[a] {
         return Pick::One(a);
@@ -127,7 +128,8 @@ fn add_response(
 )
     requires { ⌜ (base + 24 ≤ length (now out)) × T (finite u) ⌝ }
     requires { ⌜ Grouped (now v) (now groups) count × Parted (now at) (now parts) (getD (now groups) count 0) ⌝ }
-    ensures { λ _. ⌜ now (out .exit) ≡ responseAdded base (now (at .entry)) (now (parts .entry)) (now (v .entry)) (now (groups .entry)) count u (now (out .entry)) ⌝ }
+    ensures { λ _. ⌜ now (out .exit) ≡ responseAdded base (now (at .entry)) (now (parts .entry)) (now (v .entry))
+        (now (groups .entry)) count u (now (out .entry)) ⌝ }
 {
     let mut g = 0usize;
     while g < count {
@@ -153,7 +155,8 @@ pub(crate) fn respond(
 )
     requires { ⌜ 480 ≤ length (now out) ⌝ }
     requires { ⌜ Grouped (now v) (now groups) count × Parted (now at) (now parts) (getD (now groups) count 0) ⌝ }
-    ensures { λ _. ⌜ now (out .exit) ≡ responded (now (at .entry)) (now (parts .entry)) (now (v .entry)) (now (groups .entry)) count 20 (now (out .entry)) ⌝ }
+    ensures { λ _. ⌜ now (out .exit) ≡ responded (now (at .entry)) (now (parts .entry)) (now (v .entry)) (now (groups .entry)) count 20
+        (now (out .entry)) ⌝ }
 {
     let mut s = 0usize;
     while s < 20 {

@@ -3,13 +3,13 @@ ghost use mathlib.Core.Path.{_≡_};
 ghost use Prim.Native.Nat.{ℕ, _+_, _-_, _*_, _/_, _%_, _≤_, _<_};
 ghost use lib.Ieee.{nan};
 ghost use lib.ListN.{length, getD, take};
-ghost use Rattle.doubles.specs.Arithmetic.{zero};
+ghost use Rattle.doubles.specs.Arithmetic.{zero64};
 ghost use Rattle.extent.specs.Kernel.{kernelOf};
 ghost use Rattle.field.specs.Knots.{Z, steps};
 ghost use Rattle.field.specs.Tables.{sampledOver, knotNumber, numberXY, row};
 ghost use Rattle.field.specs.Patched.{patched, within, either};
-ghost use Rattle.field.specs.Columns.{Firsts};
-ghost use Rattle.field.specs.Sums.{productsOf, sumFrom};
+ghost use Rattle.field.specs.Steps.Columns.{Firsts};
+ghost use Rattle.field.specs.Steps.Sums.{productsOf, sumFrom};
 use crate::columns::first_columns;
 use crate::knots::radius_knot;
 use crate::knots::step;
@@ -20,7 +20,8 @@ use extent::shaping_exponent;
 // The kernel at each sample.
 fn kernels(out: &mut [f64], samples: usize, center: f64, radius: f64, z: bool)
     requires { ⌜ (samples ≤ 20) × (samples ≤ length (now out)) ⌝ }
-    ensures { λ _. ⌜ now (out .exit) ≡ patched (within 0 samples) (λ (s : ℕ). kernelOf (steps (samples - 1) s) center radius z) (now (out .entry)) ⌝ }
+    ensures { λ _. ⌜ now (out .exit) ≡ patched (within 0 samples) (λ (s : ℕ). kernelOf (steps (samples - 1) s) center radius z)
+        (now (out .entry)) ⌝ }
 {
     let mut s = 0usize;
     while s < samples {
@@ -32,8 +33,10 @@ fn kernels(out: &mut [f64], samples: usize, center: f64, radius: f64, z: bool)
 // The products of kernel and response that are above 0, over the samples in rising order, and how
 // many; a sample whose kernel is at most 0 has none.
 fn products(y: &mut [f64], kernels: &[f64], responses: &[f64], samples: usize, k: usize) -> usize
-    requires { ⌜ (samples ≤ 20) × (samples ≤ length (now y)) × (samples ≤ length (now kernels)) × (k < 24) × (480 ≤ length (now responses)) ⌝ }
-    ensures { λ r. ⌜ (r ≤ samples) × (take r (now (y .exit)) ≡ productsOf (λ (s : ℕ). getD (now (kernels .entry)) s nan) (λ (s : ℕ). getD (now (responses .entry)) (s * 24 + k) nan) samples) ⌝ }
+    requires { ⌜ (samples ≤ 20) × (samples ≤ length (now y)) × (samples ≤ length (now kernels)) × (k < 24) ×
+        (480 ≤ length (now responses)) ⌝ }
+    ensures { λ r. ⌜ (r ≤ samples) × (take r (now (y .exit)) ≡ productsOf (λ (s : ℕ). getD (now (kernels .entry)) s nan)
+        (λ (s : ℕ). getD (now (responses .entry)) (s * 24 + k) nan) samples) ⌝ }
 {
     let mut m = 0usize;
     let mut s = 0usize;
@@ -52,7 +55,7 @@ fn products(y: &mut [f64], kernels: &[f64], responses: &[f64], samples: usize, k
 // The first n added up.
 fn sum_of(y: &[f64], n: usize) -> f64
     requires { ⌜ n ≤ length (now y) ⌝ }
-    ensures { λ r. ⌜ r ≡ sumFrom zero (take n (now (y .entry))) ⌝ }
+    ensures { λ r. ⌜ r ≡ sumFrom zero64 (take n (now (y .entry))) ⌝ }
 {
     let mut sum = 0.0;
     let mut i = 0usize;
@@ -66,7 +69,8 @@ fn sum_of(y: &[f64], n: usize) -> f64
 // The number of channel k: the shaped products of kernel and response, added over the samples.
 fn sampled(kernels: &[f64], responses: &[f64], samples: usize, k: usize, exponent: f64) -> f64
     requires { ⌜ (samples ≤ 20) × (samples ≤ length (now kernels)) × (k < 24) × (480 ≤ length (now responses)) ⌝ }
-    ensures { λ r. ⌜ r ≡ sampledOver (λ (s : ℕ). getD (now (kernels .entry)) s nan) (λ (s : ℕ). getD (now (responses .entry)) (s * 24 + k) nan) exponent samples ⌝ }
+    ensures { λ r. ⌜ r ≡ sampledOver (λ (s : ℕ). getD (now (kernels .entry)) s nan)
+        (λ (s : ℕ). getD (now (responses .entry)) (s * 24 + k) nan) exponent samples ⌝ }
 {
     let mut y = [0.0f64; 20];
     let n = products(&mut y, kernels, responses, samples, k);
@@ -86,9 +90,12 @@ fn sampled_response(
     samples: usize,
     exponent: f64,
 )
-    requires { ⌜ (from + n ≤ length (now store)) × (n ≤ 24) × (samples ≤ 20) × (samples ≤ length (now kernels)) × (480 ≤ length (now responses)) ⌝ }
+    requires { ⌜ (from + n ≤ length (now store)) × (n ≤ 24) × (samples ≤ 20) × (samples ≤ length (now kernels)) ×
+        (480 ≤ length (now responses)) ⌝ }
     requires { ⌜ Firsts (now responses) samples n (now firsts) ⌝ }
-    ensures { λ _. ⌜ now (store .exit) ≡ patched (within from (from + n)) (λ (i : ℕ). sampledOver (λ (s : ℕ). getD (now (kernels .entry)) s nan) (λ (s : ℕ). getD (now (responses .entry)) (s * 24 + (i - from)) nan) exponent samples) (now (store .entry)) ⌝ }
+    ensures { λ _. ⌜ now (store .exit) ≡ patched (within from (from + n))
+        (λ (i : ℕ). sampledOver (λ (s : ℕ). getD (now (kernels .entry)) s nan)
+        (λ (s : ℕ). getD (now (responses .entry)) (s * 24 + (i - from)) nan) exponent samples) (now (store .entry)) ⌝ }
 {
     let mut k = 0usize;
     while k < n {
@@ -117,7 +124,8 @@ fn knot_xy(
     requires { ⌜ (480 ≤ length (now x)) × (480 ≤ length (now y)) ⌝ }
     requires { ⌜ Firsts (now x) 20 n (now firstx) ⌝ }
     requires { ⌜ Firsts (now y) 20 n (now firsty) ⌝ }
-    ensures { λ _. ⌜ now (store .exit) ≡ patched (either (row base n knot) (row base n (700 + knot))) (λ (i : ℕ). numberXY (now (x .entry)) (now (y .entry)) ((i - base) / n) ((i - base) % n)) (now (store .entry)) ⌝ }
+    ensures { λ _. ⌜ now (store .exit) ≡ patched (either (row base n knot) (row base n (700 + knot)))
+        (λ (i : ℕ). numberXY (now (x .entry)) (now (y .entry)) ((i - base) / n) ((i - base) % n)) (now (store .entry)) ⌝ }
 {
     let mut kernel = [0.0f64; 20];
     let radius = radius_knot(knot % 20);
@@ -150,7 +158,8 @@ fn knots_xy(
     requires { ⌜ (480 ≤ length (now x)) × (480 ≤ length (now y)) ⌝ }
     requires { ⌜ Firsts (now x) 20 n (now firstx) ⌝ }
     requires { ⌜ Firsts (now y) 20 n (now firsty) ⌝ }
-    ensures { λ _. ⌜ now (store .exit) ≡ patched (within base (base + 1400 * n)) (λ (i : ℕ). numberXY (now (x .entry)) (now (y .entry)) ((i - base) / n) ((i - base) % n)) (now (store .entry)) ⌝ }
+    ensures { λ _. ⌜ now (store .exit) ≡ patched (within base (base + 1400 * n))
+        (λ (i : ℕ). numberXY (now (x .entry)) (now (y .entry)) ((i - base) / n) ((i - base) % n)) (now (store .entry)) ⌝ }
 {
     let mut knot = 0usize;
     while knot < 700 {
@@ -163,7 +172,8 @@ fn knots_xy(
 pub(crate) fn table_xy(store: &mut [f64], base: usize, n: usize, x: &[f64], y: &[f64])
     requires { ⌜ (base + 1400 * n ≤ length (now store)) × (1 ≤ n) × (n ≤ 24) ⌝ }
     requires { ⌜ (480 ≤ length (now x)) × (480 ≤ length (now y)) ⌝ }
-    ensures { λ _. ⌜ now (store .exit) ≡ patched (within base (base + 1400 * n)) (λ (i : ℕ). numberXY (now (x .entry)) (now (y .entry)) ((i - base) / n) ((i - base) % n)) (now (store .entry)) ⌝ }
+    ensures { λ _. ⌜ now (store .exit) ≡ patched (within base (base + 1400 * n))
+        (λ (i : ℕ). numberXY (now (x .entry)) (now (y .entry)) ((i - base) / n) ((i - base) % n)) (now (store .entry)) ⌝ }
 {
     let mut firstx = [0usize; 24];
     let mut firsty = [0usize; 24];
@@ -177,7 +187,8 @@ fn knot_z(store: &mut [f64], base: usize, n: usize, z: &[f64], firstz: &[usize],
     requires { ⌜ (base + 1480 * n ≤ length (now store)) × (n ≤ 24) × (knot < 80) ⌝ }
     requires { ⌜ 480 ≤ length (now z) ⌝ }
     requires { ⌜ Firsts (now z) 8 n (now firstz) ⌝ }
-    ensures { λ _. ⌜ now (store .exit) ≡ patched (row base n (1400 + knot)) (λ (i : ℕ). knotNumber Z (now (z .entry)) ((i - base) / n - 1400) ((i - base) % n)) (now (store .entry)) ⌝ }
+    ensures { λ _. ⌜ now (store .exit) ≡ patched (row base n (1400 + knot))
+        (λ (i : ℕ). knotNumber Z (now (z .entry)) ((i - base) / n - 1400) ((i - base) % n)) (now (store .entry)) ⌝ }
 {
     let mut kernel = [0.0f64; 20];
     let radius = radius_knot(knot % 20);
@@ -199,7 +210,8 @@ fn knots_z(store: &mut [f64], base: usize, n: usize, z: &[f64], firstz: &[usize]
     requires { ⌜ (base + 1480 * n ≤ length (now store)) × (1 ≤ n) × (n ≤ 24) ⌝ }
     requires { ⌜ 480 ≤ length (now z) ⌝ }
     requires { ⌜ Firsts (now z) 8 n (now firstz) ⌝ }
-    ensures { λ _. ⌜ now (store .exit) ≡ patched (within (base + 1400 * n) (base + 1480 * n)) (λ (i : ℕ). knotNumber Z (now (z .entry)) ((i - base) / n - 1400) ((i - base) % n)) (now (store .entry)) ⌝ }
+    ensures { λ _. ⌜ now (store .exit) ≡ patched (within (base + 1400 * n) (base + 1480 * n))
+        (λ (i : ℕ). knotNumber Z (now (z .entry)) ((i - base) / n - 1400) ((i - base) % n)) (now (store .entry)) ⌝ }
 {
     let mut knot = 0usize;
     while knot < 80 {
@@ -212,7 +224,8 @@ fn knots_z(store: &mut [f64], base: usize, n: usize, z: &[f64], firstz: &[usize]
 pub(crate) fn table_z(store: &mut [f64], base: usize, n: usize, z: &[f64])
     requires { ⌜ (base + 1480 * n ≤ length (now store)) × (1 ≤ n) × (n ≤ 24) ⌝ }
     requires { ⌜ 480 ≤ length (now z) ⌝ }
-    ensures { λ _. ⌜ now (store .exit) ≡ patched (within (base + 1400 * n) (base + 1480 * n)) (λ (i : ℕ). knotNumber Z (now (z .entry)) ((i - base) / n - 1400) ((i - base) % n)) (now (store .entry)) ⌝ }
+    ensures { λ _. ⌜ now (store .exit) ≡ patched (within (base + 1400 * n) (base + 1480 * n))
+        (λ (i : ℕ). knotNumber Z (now (z .entry)) ((i - base) / n - 1400) ((i - base) % n)) (now (store .entry)) ⌝ }
 {
     let mut firstz = [0usize; 24];
     first_columns(&mut firstz, n, z, 8);
@@ -228,7 +241,8 @@ pub(crate) fn end_response(
     sample: usize,
 )
     requires { ⌜ (from + n ≤ length (now store)) × (n ≤ 24) × (sample < 20) × (480 ≤ length (now responses)) ⌝ }
-    ensures { λ _. ⌜ now (store .exit) ≡ patched (within from (from + n)) (λ (i : ℕ). getD (now (responses .entry)) (sample * 24 + (i - from)) nan) (now (store .entry)) ⌝ }
+    ensures { λ _. ⌜ now (store .exit) ≡ patched (within from (from + n))
+        (λ (i : ℕ). getD (now (responses .entry)) (sample * 24 + (i - from)) nan) (now (store .entry)) ⌝ }
 {
     let mut k = 0usize;
     while k < n {

@@ -1,6 +1,5 @@
 pub mod Filling
 pub mod PlaceGains
-pub mod SameDifferences
 pub mod SameTopologies
 pub mod SamePicks
 pub mod SameResponses

@@ -1,8 +1,8 @@
 -- The gains over a filled place: they follow from the numbers of the place alone, whichever place it is and whatever else the store holds; and each is finite and from 0 to 5/4. Assumes nothing.
-use Prim.Native.Nat.{ℕ, zero, suc, _+_, _-_, _*_, _/_, _≤_, _<_}
+use Prim.Native.Nat.{ℕ, zero, suc, _+_, _*_, _/_, _≤_, _<_}
 use mathlib.Core.Path.{_≡_, refl, sym, ap, ap₂, _∙_, subst}
 use mathlib.Core.Bool.{Bool, true, false, _&&_, _||_, not, cond}
-use mathlib.Core.List.{List, [], _∷_, _++_, map}
+use mathlib.Core.List.{List, [], _∷_, _++_}
 use native.Mathlib.Nat.{mul-le-mul-right, sub-zero}
 use native.Mathlib.Omega.{arith}
 use borrow.Author.Tests.{le-leb, lt-leb, lt-ltb, le-ltb, ltb-true}
@@ -10,19 +10,15 @@ use lib.Dec.{T, leb, ltb}
 use lib.Ieee.{Float, nan, binary64, fits, lt, eq}
 use lib.ListN.{length, getD, take, drop, List·getD-append}
 use lib.Seq.{length-take-le, getD-take}
-use Rattle.doubles.specs.Arithmetic.{_⊗_, one}
-use Rattle.doubles.specs.Arithmetic.{zero as zero64}
+use Rattle.doubles.specs.Arithmetic.{_⊗_, one64, zero64}
 use Rattle.doubles.specs.Norm.{Bounded}
-use Rattle.lists.specs.Lists.{all}
-use Rattle.layout.specs.declared.Layout.{Layout}
-use Rattle.layout.specs.Accepted.{Accepted}
-use Rattle.layout.specs.Channels.{activeNames, activeCount}
-use Rattle.layout.specs.Topology.{topologyOf, anchorX, rowY, layerZ}
-use Rattle.gains.specs.declared.Centre.{Centre}
+use Rattle.layout.specs.Room.{Room, namesIn, activeIn}
+use Rattle.layout.proofs.SoundRoom.{SoundRoom}
+use Rattle.layout.specs.declared.Centre.{Centre}
 use Rattle.gains.specs.declared.Wall.{Wall}
 use Rattle.gains.specs.declared.Wall.the-variants.{X, Y, Z}
 use Rattle.field.specs.Knots as knots
-use Rattle.gains.specs.Lookup.{listed, centreKnots, radiusKnots, bracketOf}
+use Rattle.gains.specs.Lookup.{tabulate, centreKnots, radiusKnots, bracketOf}
 use Rattle.gains.specs.Walls.{distanceOf, nearerOf, wallX, wallY, nearestWall}
 use Rattle.gains.specs.Diffuse.{Rows, responseX, responseY, responseZ, weightOf, ended, endProduct, compensatedOf, diffuseOf}
 use Rattle.extent.specs.Kernel.{exponentOf}
@@ -31,7 +27,7 @@ use Rattle.field.specs.Place.{placeNumber, rowOfZ, rowWritten, placeStart, fill
 use Rattle.gains.proofs.DiffuseSigns.{tableRows, CentreFits, Good}
 use Rattle.gains.proofs.Lookups.{placed-X, placed-Y, placed-Z, placed-radius, lookup-same}
 use Rattle.field.proofs.PlaceNumbers.{place-fits, filled-length, filled-at}
-use Rattle.field.proofs.PlaceClear.{layout-place-clear}
+use Rattle.field.proofs.PlaceClear.{room-place-clear}
 use Rattle.gains.proofs.GainBounds.{clamped-fits, projected-bounded}
 use Rattle.field.proofs.Tables.{row-index}
 use Rattle.field.proofs.PlaceRows.{both-left}
@@ -86,12 +82,12 @@ nearer-same f g a b p q = go (lt (distanceOf b) (distanceOf a))
 module _ (f g : Rows) (deep : Bool) (agree : (i : ℕ) → rowRead deep i ≡ true → f i ≡ g i) where
   ends-X : (far : Bool) (d : Float) → EndSame f g (X far d)
   unfolding EndSame endProduct
-  ends-X true d c r x y z = ap (λ (v : Float). ended v one (c .x) false r ⊗ y ⊗ z) (agree 1481 (read-ends deep 1481 (omega arith) (omega arith)))
+  ends-X true d c r x y z = ap (λ (v : Float). ended v one64 (c .x) false r ⊗ y ⊗ z) (agree 1481 (read-ends deep 1481 (omega arith) (omega arith)))
   ends-X false d c r x y z = ap (λ (v : Float). ended v zero64 (c .x) false r ⊗ y ⊗ z) (agree 1480 (read-ends deep 1480 (omega arith) (omega arith)))
 
   ends-Y : (far : Bool) (d : Float) → EndSame f g (Y far d)
   unfolding EndSame endProduct
-  ends-Y true d c r x y z = ap (λ (v : Float). ended v one (c .y) false r ⊗ x ⊗ z) (agree 1483 (read-ends deep 1483 (omega arith) (omega arith)))
+  ends-Y true d c r x y z = ap (λ (v : Float). ended v one64 (c .y) false r ⊗ x ⊗ z) (agree 1483 (read-ends deep 1483 (omega arith) (omega arith)))
   ends-Y false d c r x y z = ap (λ (v : Float). ended v zero64 (c .y) false r ⊗ x ⊗ z) (agree 1482 (read-ends deep 1482 (omega arith) (omega arith)))
 
   ends-XY : (c : Centre) → EndSame f g (nearerOf (wallX (c .x)) (wallY (c .y)))
@@ -100,7 +96,7 @@ module _ (f g : Rows) (deep : Bool) (agree : (i : ℕ) → rowRead deep i ≡ tr
 
 ends-Z : (f g : Rows) → ((i : ℕ) → rowRead true i ≡ true → f i ≡ g i) → (d : Float) → EndSame f g (Z d)
 unfolding EndSame endProduct
-ends-Z f g agree d c r x y z = ap (λ (v : Float). ended v one (c .z) true r ⊗ x ⊗ y) (agree 1485 (read-deep 1485 (omega arith)))
+ends-Z f g agree d c r x y z = ap (λ (v : Float). ended v one64 (c .z) true r ⊗ x ⊗ y) (agree 1485 (read-deep 1485 (omega arith)))
 
 ends-same : (f g : Rows) (deep : Bool) → ((i : ℕ) → rowRead deep i ≡ true → f i ≡ g i) → (c : Centre) → EndSame f g (nearestWall c deep)
 unfolding nearestWall
@@ -126,7 +122,7 @@ diffuse-same f g deep c r h k agree =
     ∙ ap (λ (v : Float). joined deep c r x y z v) (ends-same f g deep agree c c r x y z)
 
 -- ---- and so the same gains
-listed-same : (f g : ℕ → Float) (n : ℕ) → ((k : ℕ) → k < n → f k ≡ g k) → listed f n ≡ listed g n
+listed-same : (f g : ℕ → Float) (n : ℕ) → ((k : ℕ) → k < n → f k ≡ g k) → tabulate f n ≡ tabulate g n
 listed-same f g zero e = refl
 listed-same f g (suc n) e = ap₂ (λ (xs : List Float) (x : Float). xs ++ (x ∷ [])) (listed-same f g n (λ k h. e k (omega arith))) (e n (omega arith))
 
@@ -160,23 +156,26 @@ point-bounded p n s deep r c points gains e long given k h =
     (subst Bounded (sym (List·getD-append (take n points) (drop n gains) nan k (omega arith))) (subst Bounded (sym (getD-take n points k nan h)) (given k h)))
 
 -- ---- a filled place
-module _ (l : Layout) (a : Accepted l) (p : ℕ) (store : List Float) (low : p < 8) (big : 285312 ≤ length store) (k i : ℕ) (within : k < activeCount l) where
-  in-store : i < 1486 → placeStart p + (i * activeCount l + k) < length store
+module _ (room : Room) (sound : SoundRoom room) (p : ℕ) (store : List Float) (low : p < 8) (big : 285312 ≤ length store) (k i : ℕ) (within : k < activeIn room) where
+  in-store : i < 1486 → placeStart p + (i * activeIn room + k) < length store
   in-store h =
-      let m : i * activeCount l ≤ 1485 * activeCount l = mul-le-mul-right (activeCount l) (omega arith) in
-      omega (arith, a .fewActive)
+      let m : i * activeIn room ≤ 1485 * activeIn room = mul-le-mul-right (activeIn room) (omega arith) in
+      omega (arith, sound .fewActive)
 
-  its-row : (i * activeCount l + k) / activeCount l ≡ i
+  its-row : (i * activeIn room + k) / activeIn room ≡ i
   its-row =
-      ap (λ (m : ℕ). m / activeCount l) (sym (sub-zero (i * activeCount l + k)))
-      ∙ row-index 0 (activeCount l) i (i * activeCount l + k) (omega arith) (omega arith) .0
+      ap (λ (m : ℕ). m / activeIn room) (sym (sub-zero (i * activeIn room + k)))
+      ∙ row-index 0 (activeIn room) i (i * activeIn room + k) (omega arith) (omega arith) .0
 
-  pub place-row : i < 1486 → rowWritten (topologyOf l) i ≡ true → rowsIn (filled l p store) p (activeCount l) k i ≡ placeNumber (topologyOf l) (activeNames l) (i * activeCount l + k)
-  place-row h w = filled-at l p store (i * activeCount l + k) (in-store h) (ap (rowWritten (topologyOf l)) its-row ∙ w)
+  pub place-row : i < 1486 → rowWritten (room .layers) i ≡ true → rowsIn (filled room p store) p (activeIn room) k i ≡ placeNumber (room .layers) (namesIn room) (i * activeIn room + k)
+  place-row h w = filled-at room p store (i * activeIn room + k) (in-store h) (ap (rowWritten (room .layers)) its-row ∙ w)
 
 -- the rows read are those that are written
-module _ (l : Layout) (a : Accepted l) (deep : Bool) (d : deep ≡ ltb 1 (length (topologyOf l))) where
-  read-written : (i : ℕ) → rowRead deep i ≡ true → rowWritten (topologyOf l) i ≡ true
+module _ (room : Room) (sound : SoundRoom room) (deep : Bool) (d : deep ≡ ltb 1 (length (room .layers))) where
+  abbrev n : ℕ
+  n = activeIn room
+
+  read-written : (i : ℕ) → rowRead deep i ≡ true → rowWritten (room .layers) i ≡ true
   read-written i h = ap (λ (b : Bool). ltb i 1486 && (b || not (rowOfZ i))) (sym d) ∙ h
 
   read-low : (i : ℕ) → rowRead deep i ≡ true → i < 1486
@@ -184,39 +183,36 @@ module _ (l : Layout) (a : Accepted l) (deep : Bool) (d : deep ≡ ltb 1 (length
 
   -- a place filled in one store and another filled in another give the same gains
   module _ (p q : ℕ) (s t : List Float) (lowP : p < 8) (lowQ : q < 8) (bigS : 285312 ≤ length s) (bigT : 285312 ≤ length t) (mean : ℕ) (r : Float) (c : Centre) (points gains : List Float) (centre : CentreFits c) (radius : T (fits binary64 r)) where
-    abbrev n : ℕ
-    n = activeCount l
-
-    filled-gains : (ps : List Float) → gainsOf (rowsIn (filled l p s) p n) n deep mean r c ps ≡ gainsOf (rowsIn (filled l q t) q n) n deep mean r c ps
+    filled-gains : (ps : List Float) → gainsOf (rowsIn (filled room p s) p n) n deep mean r c ps ≡ gainsOf (rowsIn (filled room q t) q n) n deep mean r c ps
     filled-gains ps =
-        gains-same (rowsIn (filled l p s) p n) (rowsIn (filled l q t) q n) n deep mean r c ps centre radius
+        gains-same (rowsIn (filled room p s) p n) (rowsIn (filled room q t) q n) n deep mean r c ps centre radius
         (λ k h i w.
         let low = read-low i w in
         let wr = read-written i w in
-        place-row l a p s lowP bigS k i h low wr ∙ sym (place-row l a q t lowQ bigT k i h low wr))
+        place-row room sound p s lowP bigS k i h low wr ∙ sym (place-row room sound q t lowQ bigT k i h low wr))
 
-    pub filled-projected : projected (filled l p s) p n deep mean r c points gains ≡ projected (filled l q t) q n deep mean r c points gains
+    pub filled-projected : projected (filled room p s) p n deep mean r c points gains ≡ projected (filled room q t) q n deep mean r c points gains
     unfolding projected
     filled-projected =
-        let both = both-ask p q n (filled l p s) (filled l q t) (length points) (length gains) lowP lowQ (omega (arith, filled-length l p s)) (omega (arith, filled-length l q t)) in
-        ap (λ (g : List Float). cond (projectable (length (filled l p s)) p n (length points) (length gains)) (g ++ drop n gains) gains) (filled-gains (take n points))
-        ∙ ap (λ (b : Bool). cond b (gainsOf (rowsIn (filled l q t) q n) n deep mean r c (take n points) ++ drop n gains) gains) both
+        let both = both-ask p q n (filled room p s) (filled room q t) (length points) (length gains) lowP lowQ (omega (arith, filled-length room p s)) (omega (arith, filled-length room q t)) in
+        ap (λ (g : List Float). cond (projectable (length (filled room p s)) p n (length points) (length gains)) (g ++ drop n gains) gains) (filled-gains (take n points))
+        ∙ ap (λ (b : Bool). cond b (gainsOf (rowsIn (filled room q t) q n) n deep mean r c (take n points) ++ drop n gains) gains) both
 
   -- each gain over a filled place is finite and from 0 to 5/4
-  module _ (p : ℕ) (s : List Float) (low : p < 8) (big : 285312 ≤ length s) (mean : ℕ) (r : Float) (c : Centre) (points gains : List Float) (centre : CentreFits c) (radius : T (fits binary64 r)) (zs : T (all (fits binary64) (map layerZ (l .layers)))) (ys : T (all (fits binary64) (map rowY (l .rows)))) (xs : T (all (fits binary64) (map anchorX (l .anchors)))) where
+  module _ (p : ℕ) (s : List Float) (low : p < 8) (big : 285312 ≤ length s) (mean : ℕ) (r : Float) (c : Centre) (points gains : List Float) (centre : CentreFits c) (radius : T (fits binary64 r)) where
     table-read : (b : Bool) (i : ℕ) → i < tableRows b → rowRead b i ≡ true
     table-read true i h = read-deep i (omega arith)
     table-read false i h = read-XY false i h
 
-    good-rows : (k : ℕ) → k < activeCount l → (i : ℕ) → i < tableRows deep → Good (rowsIn (filled l p s) p (activeCount l) k i)
+    good-rows : (k : ℕ) → k < n → (i : ℕ) → i < tableRows deep → Good (rowsIn (filled room p s) p n k i)
     good-rows k h i w =
-        let j = i * activeCount l + k in
+        let j = i * n + k in
         let rd = table-read deep i w in
-        subst Good (sym (place-row l a p s low big k i h (read-low i rd) (read-written i rd)))
-        (layout-place-clear l a zs ys xs j, place-fits (topologyOf l) (activeNames l) j)
+        subst Good (sym (place-row room sound p s low big k i h (read-low i rd) (read-written i rd)))
+        (room-place-clear room sound j, place-fits (room .layers) (namesIn room) j)
 
-    pub filled-bounded : projectable (length s) p (activeCount l) (length points) (length gains) ≡ true → ((k : ℕ) → k < activeCount l → Bounded (getD points k nan)) → (k : ℕ) → k < activeCount l → Bounded (getD (projected (filled l p s) p (activeCount l) deep mean r c points gains) k nan)
+    pub filled-bounded : projectable (length s) p n (length points) (length gains) ≡ true → ((k : ℕ) → k < n → Bounded (getD points k nan)) → (k : ℕ) → k < n → Bounded (getD (projected (filled room p s) p n deep mean r c points gains) k nan)
     filled-bounded e given =
-        projected-bounded (filled l p s) p (activeCount l) deep mean r c points gains
-        (ap (λ (m : ℕ). projectable m p (activeCount l) (length points) (length gains)) (filled-length l p s) ∙ e)
+        projected-bounded (filled room p s) p n deep mean r c points gains
+        (ap (λ (m : ℕ). projectable m p n (length points) (length gains)) (filled-length room p s) ∙ e)
         centre radius good-rows given

@@ -8,17 +8,16 @@ use lib.Ieee.{Float}
 use lib.Ieee.Scale.{finite}
 use lib.ListN.{getD}
 use mir.Facts.{and-yes}
-use Rattle.doubles.specs.Arithmetic.{one}
-use Rattle.doubles.specs.Arithmetic.{zero as zero64}
-use Rattle.lists.specs.Lists.{all, concat}
+use Rattle.doubles.specs.Arithmetic.{one64, zero64}
+use Rattle.lists.specs.Lists.{allOf, flatten}
 use Rattle.layout.specs.declared.Anchor.{Anchor}
 use Rattle.layout.specs.Topology.{TopologyRow, TopologyLayer, anchorX}
 use Rattle.layout.specs.Questions.{ordered, orderedRow, orderedLayer, topologyY, topologyZ}
 use Rattle.field.specs.declared.Pick.{Pick}
 use Rattle.field.specs.declared.Pick.the-variants.{One, Two}
 use Rattle.field.specs.Knots.{Axis, X, Y, Z}
-use Rattle.field.specs.Responses.{Weight, weighted, spread, alone, rowAnchors, layerAnchors, rowWeightsX, layerWeightsX, layerWeightsY, weightsOn, addedUp, responseOn}
-use Rattle.field_laws.proofs.SameDifferences.{Alike}
+use Rattle.field.specs.Responses.{Weight, weighted, weightsOf, alone, rowAnchors, layerAnchors, rowWeightsX, layerWeightsX, layerWeightsY, weightsOn, addedUp, responseOn}
+use Rattle.doubles.proofs.Alike.{Alike}
 use Rattle.field_laws.proofs.SameTopologies.{Each, end, next, each-map, AnchorAlike, RowAlike, LayerAlike, TopologyAlike}
 use Rattle.field_laws.proofs.SamePicks.{pick-same, layer-pick-same}
 
@@ -28,7 +27,7 @@ module _ {A B : Type 0} {R : A → B → Type 0} where
   each-append end e = e
   each-append (next w d) e = next w (each-append d e)
 
-  each-concat : {xss : List (List A)} {yss : List (List B)} → Each (Each R) xss yss → Each R (concat xss) (concat yss)
+  each-concat : {xss : List (List A)} {yss : List (List B)} → Each (Each R) xss yss → Each R (flatten xss) (flatten yss)
   each-concat end = end
   each-concat (next w e) = each-append w (each-concat e)
 
@@ -39,10 +38,10 @@ module _ {A B : Type 0} {R : A → B → Type 0} where
   each-part (suc i) (next w e) = each-part i e
 
 -- what is the same of each that passes a test, is the same of all
-each-same : {A B : Type 0} {R : A → A → Type 0} (q : A → Bool) (f : A → List B) → ((x y : A) → R x y → T (q x) → f x ≡ f y) → {xs ys : List A} → Each R xs ys → T (all q xs) → concat (map f xs) ≡ concat (map f ys)
+each-same : {A B : Type 0} {R : A → A → Type 0} (q : A → Bool) (f : A → List B) → ((x y : A) → R x y → T (q x) → f x ≡ f y) → {xs ys : List A} → Each R xs ys → T (allOf q xs) → flatten (map f xs) ≡ flatten (map f ys)
 each-same q f h end t = refl
 each-same q f h (next {x = x} {y = y} {xs = xs} w e) t =
-    let p = and-yes (q x) (all q xs) t in
+    let p = and-yes (q x) (allOf q xs) t in
     ap₂ _++_ (h x y w (p .0)) (each-same q f h e (p .1))
 
 -- ---- the weights of a pick
@@ -50,12 +49,12 @@ weighted-same : (w : Float) {xs ys : List Anchor} → Each AnchorAlike xs ys →
 weighted-same w end = refl
 weighted-same w (next v e) = ap₂ (λ (n : ℕ) (r : List Weight). record { name = n; weight = w } ∷ r) (v .0) (weighted-same w e)
 
-spread-same : (p : Pick) {xss yss : List (List Anchor)} → Each (Each AnchorAlike) xss yss → spread p xss ≡ spread p yss
-spread-same (One i) e = weighted-same one (each-part i e)
+spread-same : (p : Pick) {xss yss : List (List Anchor)} → Each (Each AnchorAlike) xss yss → weightsOf p xss ≡ weightsOf p yss
+spread-same (One i) e = weighted-same one64 (each-part i e)
 spread-same (Two i v w) e = ap₂ _++_ (weighted-same v (each-part i e)) (weighted-same w (each-part (i + 1) e))
 
-picked : {p q : Pick} {xss yss : List (List Anchor)} → p ≡ q → Each (Each AnchorAlike) xss yss → spread p xss ≡ spread q yss
-picked {q = q} {xss = xss} g e = ap (λ (r : Pick). spread r xss) g ∙ spread-same q e
+picked : {p q : Pick} {xss yss : List (List Anchor)} → p ≡ q → Each (Each AnchorAlike) xss yss → weightsOf p xss ≡ weightsOf q yss
+picked {q = q} {xss = xss} g e = ap (λ (r : Pick). weightsOf r xss) g ∙ spread-same q e
 
 -- ---- the parts of topologies that are alike
 xs-alike : {as' bs : List Anchor} → Each AnchorAlike as' bs → Each Alike (map anchorX as') (map anchorX bs)
@@ -84,13 +83,13 @@ module _ (u : Float) (f : T (finite u)) where
 
   layer-same-x : (l m : TopologyLayer) → LayerAlike l m → T (orderedLayer l) → layerWeightsX u l ≡ layerWeightsX u m
   unfolding layerWeightsX
-  layer-same-x l m w o = each-same orderedRow (rowWeightsX u) row-same (w .1) (and-yes (ordered (map topologyY (l .rows))) (all orderedRow (l .rows)) o .1)
+  layer-same-x l m w o = each-same orderedRow (rowWeightsX u) row-same (w .1) (and-yes (ordered (map topologyY (l .rows))) (allOf orderedRow (l .rows)) o .1)
 
   layer-same-y : (l m : TopologyLayer) → LayerAlike l m → T (orderedLayer l) → layerWeightsY u l ≡ layerWeightsY u m
   unfolding layerWeightsY
-  layer-same-y l m w o = picked (pick-same u f (ys-alike (w .1)) (and-yes (ordered (map topologyY (l .rows))) (all orderedRow (l .rows)) o .0)) (rows-alike (w .1))
+  layer-same-y l m w o = picked (pick-same u f (ys-alike (w .1)) (and-yes (ordered (map topologyY (l .rows))) (allOf orderedRow (l .rows)) o .0)) (rows-alike (w .1))
 
-  module _ (t v : List TopologyLayer) (w : TopologyAlike t v) (oz : T (ordered (map topologyZ t))) (ol : T (all orderedLayer t)) where
+  module _ (t v : List TopologyLayer) (w : TopologyAlike t v) (oz : T (ordered (map topologyZ t))) (ol : T (allOf orderedLayer t)) where
     weights-same : (a : Axis) → weightsOn a t u ≡ weightsOn a v u
     unfolding weightsOn
     weights-same X = each-same orderedLayer (layerWeightsX u) layer-same-x w ol

@@ -8,14 +8,15 @@
 // of the value is where it begins, the low half how many doubles), 922 the bits of a number of the
 // store. 930 to 932 set the components of the extent, 933 to 935 those of the centre, 936 adds a
 // point gain and 937 drops them all; 938 and 939 set a number of the store: its index and then its
-// value. 940 projects over a place: it writes the mean, the radius's bits and the gains' bits.
+// value. 940 projects over a place: it writes the mean, the radius's bits and the gains' bits. 942 sets a
+// radius by itself, and 943 projects over a place with it: it writes the gains' bits.
 //
 // Two commands are for timing: 923 fills place 0 that many times, and 941 projects over it that many
 // times, the centre moving a little each time.
 use extent::Extent;
 use extent::Reading;
-use gains::Centre;
 use layout::Anchor;
+use layout::Centre;
 use layout::Channel;
 use layout::Layout;
 use libc::STDIN_FILENO;
@@ -36,6 +37,7 @@ pub struct Object {
     pub points: [f64; 24],
     pub count: usize,
     pub index: usize,
+    pub radius: f64,
 }
 
 fn add(l: Layout, k: u64, name: u64, v: u64) -> Layout {
@@ -123,7 +125,7 @@ fn tell(store: &mut [f64], l: Layout, k: u64, v: u64) {
         return;
     }
     if k == 920 {
-        if field::fill_place(store, v as usize, l) {
+        if fill(store, v as usize, l) {
             io::write_all(STDOUT_FILENO, b"1\n");
         } else {
             io::write_all(STDOUT_FILENO, b"0\n");
@@ -175,6 +177,7 @@ fn placed(o: Object, k: u64, x: f64) -> Object {
         points: points,
         count: o.count,
         index: o.index,
+        radius: o.radius,
     }
 }
 
@@ -191,6 +194,8 @@ fn brought(o: Object, k: u64, v: u64) -> Object {
         }
     } else if k == 937 {
         next.count = 0;
+    } else if k == 942 {
+        next.radius = doubles::of_bits(v);
     } else {
         next.index = v as usize;
     }
@@ -283,14 +288,22 @@ fn empty() -> Setting {
             points: [0.0f64; 24],
             count: 0,
             index: 0,
+            radius: 0.0,
         },
     }
+}
+
+// Fills place p with the field of the layout's room.
+fn fill(store: &mut [f64], p: usize, l: Layout) -> bool {
+    let mut key = [0u64; 156];
+    keys::pack(l, 0, &mut key);
+    field::fill_place(store, p, &key)
 }
 
 fn fill_often(store: &mut [f64], l: Layout, count: u64) {
     let mut left = count;
     while 0 < left {
-        field::fill_place(store, 0, l);
+        fill(store, 0, l);
         left -= 1;
     }
 }
@@ -375,7 +388,7 @@ fn step(store: &mut [f64], b: Setting, k: u64, v: u64) -> Setting {
         tell(store, l, k, v);
         return b;
     }
-    if k < 939 {
+    if (k < 939) | (k == 942) {
         return Setting {
             state: s,
             object: brought(o, k, v),
@@ -387,6 +400,8 @@ fn step(store: &mut [f64], b: Setting, k: u64, v: u64) -> Setting {
     }
     if k == 940 {
         project(store, l, o, v as usize);
+    } else if k == 943 {
+        gains_of(store, l, o, v as usize, 1, o.radius);
     } else {
         project_often(store, l, o, v);
     }

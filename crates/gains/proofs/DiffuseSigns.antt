@@ -6,13 +6,13 @@ use native.Mathlib.Omega.{arith}
 use lib.Dec.{T}
 use lib.Ieee.{Float, binary64, lt, eq, fits}
 use lib.Ieee.Fits.{cond-fits}
-use Rattle.doubles.specs.Arithmetic.{_⊘_, zero}
+use Rattle.doubles.specs.Arithmetic.{_⊘_, zero64}
 use Rattle.approximations.specs.Exp2.{exp2Of}
 use Rattle.approximations.specs.Log2.{log2Of}
 use Rattle.doubles.proofs.Signs.{clear}
 use Rattle.doubles.proofs.Laws.{mul-fits, div-fits, mul-clear}
 use Rattle.approximations.proofs.Laws.{exp2-clear}
-use Rattle.gains.specs.declared.Centre.{Centre}
+use Rattle.layout.specs.declared.Centre.{Centre}
 use Rattle.field.specs.Knots.{X, Y, Z}
 use Rattle.gains.specs.Lookup.{centreKnots, radiusKnots, bracketOf}
 use Rattle.gains.specs.Diffuse.{Rows, responseX, responseY, responseZ, weightOf, compensatedOf, diffuseOf}
@@ -30,18 +30,18 @@ pub compensated-clear : (i p l e : Float) → T (clear (compensatedOf i p l e))
 unfolding compensatedOf
 compensated-clear i p l e =
     let v = log2Of (field i p l e) ⊘ e in
-    clear-by (lt zero (field i p l e)) (exp2Of v) zero (exp2-clear v (div-fits (log2Of (field i p l e)) e)) tt
+    clear-by (lt zero64 (field i p l e)) (exp2Of v) zero64 (exp2-clear v (div-fits (log2Of (field i p l e)) e)) tt
 
 pub compensated-fits : (i p l e : Float) → T (fits binary64 (compensatedOf i p l e))
 unfolding compensatedOf fits
 compensated-fits i p l e =
     let v = log2Of (field i p l e) ⊘ e in
-    cond-fits binary64 (lt zero (field i p l e)) (exp2Of v) zero (exp2-fits v) tt
+    cond-fits binary64 (lt zero64 (field i p l e)) (exp2Of v) zero64 (exp2-fits v) tt
 
 -- ---- the diffuse field
 module _ (f : Rows) (deep : Bool) (c : Centre) (r : Float) where
   at-weight : Bool
-  at-weight = eq (weightOf c deep r) zero
+  at-weight = eq (weightOf c deep r) zero64
 
   -- it is a double
   pub diffuse-fits : T (fits binary64 (diffuseOf f deep c r))

@@ -10,8 +10,7 @@ use lib.Ieee.Fits.{and-l, and-r, cond-fits}
 use lib.Ieee.Scale.{finite}
 use lib.ListN.{length, getD, take, drop, length-map, List·getD-append}
 use lib.Seq.{getD-take, length-take-le}
-use Rattle.doubles.specs.Arithmetic.{_⊕_, _⊗_, _⊘_, dec, one}
-use Rattle.doubles.specs.Arithmetic.{zero as zero64}
+use Rattle.doubles.specs.Arithmetic.{_⊕_, _⊗_, _⊘_, dec, one64, zero64}
 use Rattle.doubles.specs.Norm.{sumSquares, Bounded}
 use Rattle.doubles.specs.Range.{clampTo}
 use Rattle.doubles.specs.Root.{sqrtOf}
@@ -19,10 +18,11 @@ use Rattle.doubles.proofs.Signs.{notNeg}
 use Rattle.doubles.proofs.Laws.{add-fits, mul-fits, add-notNeg, mul-notNeg, clear-notNeg, notNeg-of-le, norm-bound}
 use Rattle.gains.specs.declared.Blend.{Blend}
 use Rattle.gains.specs.declared.Blend.the-variants.{Point, Both, Field}
-use Rattle.gains.specs.declared.Centre.{Centre}
+use Rattle.layout.specs.declared.Centre.{Centre}
 use Rattle.gains.specs.Lookup.{channels}
 use Rattle.gains.specs.Diffuse.{Rows, diffuseOf}
-use Rattle.gains.specs.Gains.{normalizedOf, blendOf, blended, zipped, clampedCentre, rowsIn, gainsOf, projectable, projected}
+use Rattle.gains.specs.Gains.{normalizedOf, blendOf, blended, clampedCentre, rowsIn, gainsOf, projectable, projected}
+use Rattle.lists.specs.Lists.{zipWith}
 use Rattle.extent.proofs.Tests.{yes}
 use Rattle.gains.proofs.DiffuseSigns.{tableRows, CentreFits, Good, diffuse-fits, diffuse-clear}
 use Rattle.gains.proofs.lookup.Listing.{length-listed, getD-listed}
@@ -66,7 +66,7 @@ module _ (points field : List Float) (n : ℕ) (p : length points ≡ n) (q : le
   blended-length : (w : Blend) → length (blended w points field) ≡ n
   unfolding blended
   blended-length Point = p
-  blended-length (Both u v) = normalized-length (zipped (λ (x y : Float). u ⊗ x ⊕ v ⊗ y) points field) ∙ zipped-long _ points field n p q
+  blended-length (Both u v) = normalized-length (zipWith (λ (x y : Float). u ⊗ x ⊕ v ⊗ y) points field) ∙ zipped-long _ points field n p q
   blended-length Field = normalized-length (map (λ (y : Float). dec 5 1 ⊗ y) field) ∙ length-map field _ ∙ q
 
   blended-bounded : (k : ℕ) → k < n → Bounded (getD points k nan) → Bounded (getD field k nan) → (w : Blend) → Weights w → Bounded (getD (blended w points field) k nan)
@@ -77,7 +77,7 @@ module _ (points field : List Float) (n : ℕ) (p : length points ≡ n) (q : le
       let x = getD points k nan in
       let y = getD field k nan in
       let long = zipped-long g points field n p q in
-      normalized-bounded (zipped g points field) k (omega arith)
+      normalized-bounded (zipWith g points field) k (omega arith)
       (subst Plus (sym (getD-zipped g points field k nan (omega arith) (omega arith)))
       (add-fits (u ⊗ x) (v ⊗ y), add-notNeg (u ⊗ x) (v ⊗ y) (mul-notNeg u x (w .0) (notNeg-of-le x (b .1))) (mul-notNeg v y (w .1) (notNeg-of-le y (d .1)))))
   blended-bounded k h b d Field w =
@@ -88,9 +88,9 @@ module _ (points field : List Float) (n : ℕ) (p : length points ≡ n) (q : le
       (subst Plus (sym (getD-mapped g field k nan (omega arith))) (mul-fits (dec 5 1) y, mul-notNeg (dec 5 1) y half-notNeg (notNeg-of-le y (d .1))))
 
 -- ---- the centre
-clamp-fits : (x : Float) → T (fits binary64 x) → T (fits binary64 (clampTo zero64 one x))
+clamp-fits : (x : Float) → T (fits binary64 x) → T (fits binary64 (clampTo zero64 one64 x))
 unfolding clampTo fits
-clamp-fits x h = cond-fits binary64 (lt x zero64) zero64 (cond (lt one x) one x) tt (cond-fits binary64 (lt one x) one x tt h)
+clamp-fits x h = cond-fits binary64 (lt x zero64) zero64 (cond (lt one64 x) one64 x) tt (cond-fits binary64 (lt one64 x) one64 x tt h)
 
 pub clamped-fits : (c : Centre) → CentreFits c → CentreFits (clampedCentre c)
 clamped-fits c h = (clamp-fits (c .x) (h .0), clamp-fits (c .y) (h .1), clamp-fits (c .z) (h .2))

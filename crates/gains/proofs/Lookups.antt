@@ -9,15 +9,14 @@ use borrow.Author.Tests.{le-ltb}
 use lib.Dec.{T}
 use lib.Ieee.{Float, nan, inf, fin, binary64, up, down, add, mul, lt, le, eq, fits}
 use lib.Ieee.Scale.{finite}
-use Rattle.doubles.specs.Arithmetic.{_⊕_, _⊖_, _⊘_, one}
-use Rattle.doubles.specs.Arithmetic.{zero as zero64}
+use Rattle.doubles.specs.Arithmetic.{_⊕_, _⊖_, _⊘_, one64, zero64}
 use Rattle.doubles.proofs.Laws.{add-fits, lerp-clear}
 use Rattle.doubles.proofs.Magnitude.{plain, plain-finite}
 use Rattle.doubles.proofs.Signs.{clear}
 use Rattle.gains.specs.declared.Bracket.{Bracket}
 use Rattle.field.specs.Knots.{X, Y, Z, steps, radiusKnot}
-use Rattle.gains.specs.Lookup.{listed, centreKnots, radiusKnots, atKnot, bracketOf, mixed, atCentre, lookupOf}
-use Rattle.field.specs.Responses.{below}
+use Rattle.gains.specs.Lookup.{tabulate, centreKnots, radiusKnots, atKnot, bracketOf, mixed, atCentre, lookupOf}
+use Rattle.field.specs.Responses.{countBelow}
 use Rattle.field.proofs.ResponseOrder.{not-lt-of-not-le}
 use Rattle.extent.proofs.Tests.{yes}
 use Rattle.gains.proofs.lookup.Comparing.{le-of-lt, le-of-not-lt, nan-of, between-plain}
@@ -30,7 +29,7 @@ use Rattle.gains.proofs.lookup.Quotient.{quotient-up-to}
 
 -- where v stands: a NaN gives a NaN, and any other v a finite number from 0 to 1
 abbrev pub Share : Float → Float → Type 0
-Share v t = ((v ≡ nan) × (t ≡ nan)) ⊎ (T (finite t) × T (le zero64 t) × T (le t one))
+Share v t = ((v ≡ nan) × (t ≡ nan)) ⊎ (T (finite t) × T (le zero64 t) × T (le t one64))
 
 -- the bracket of v among knots 0 to last
 pub record Placed (last : ℕ) (v : Float) (b : Bracket) : Type 0 where
@@ -55,10 +54,10 @@ plain-from t p = yes (le-of-not-lt t zero64 (plain-finite t p) tt (not-under t p
 
 module _ (f : ℕ → Float) (last : ℕ) (r : Rising f last) (v : Float) (d : T (fits binary64 v)) where
   -- between two knots
-  between : lt zero64 v ≡ true → le (f last) v ≡ false → Placed last v (bracketOf (listed f (last + 1)) v)
+  between : lt zero64 v ≡ true → le (f last) v ≡ false → Placed last v (bracketOf (tabulate f (last + 1)) v)
   between h e =
       let xs = knots f last r in
-      let k = below v xs in
+      let k = countBelow v xs in
       let n = knots-length f last r in
       let some : 1 ≤ k = below-some v xs (ap (λ (x : Float). lt x v) (knots-first f last r) ∙ h) (omega arith) in
       let most : k ≤ last = below-most v xs last (omega arith) (ap (λ (x : Float). lt x v) (knots-at f last r last (omega arith)) ∙ not-lt-of-not-le (f last) v e) in
@@ -75,10 +74,10 @@ module _ (f : ℕ → Float) (last : ℕ) (r : Rising f last) (v : Float) (d : T
       subst (Placed last v) (sym (between-by f last r v h e ∙ between-same f last r v k most))
       (record { order = omega arith; within = most; double = q .0; share = inr (plain-finite t (q .1), plain-from t (q .1), q .2) })
 
-  pub placed : Placed last v (bracketOf (listed f (last + 1)) v)
+  pub placed : Placed last v (bracketOf (tabulate f (last + 1)) v)
   placed = go (le v zero64) (lt zero64 v) (le (f last) v) refl refl refl
     where
-      go : (a b c : Bool) → le v zero64 ≡ a → lt zero64 v ≡ b → le (f last) v ≡ c → Placed last v (bracketOf (listed f (last + 1)) v)
+      go : (a b c : Bool) → le v zero64 ≡ a → lt zero64 v ≡ b → le (f last) v ≡ c → Placed last v (bracketOf (tabulate f (last + 1)) v)
       go true b c e g h = subst (Placed last v) (sym (at-first f last r v e)) (at-knot last v 0 (omega arith))
       go false false c e g h =
           let z = nan-of v g e in

@@ -5,10 +5,10 @@ use mathlib.Core.List.{List}
 use lib.IntN.{pos}
 use lib.Ieee.{Float, nan, lt, le, eq}
 use lib.ListN.{getD}
-use Rattle.doubles.specs.Arithmetic.{_⊕_, _⊗_, _⊘_, dec, whole, zero, one}
+use Rattle.doubles.specs.Arithmetic.{_⊕_, _⊗_, _⊘_, dec, fromInt, zero64, one64}
 use Rattle.approximations.specs.Exp2.{exp2Of}
 use Rattle.approximations.specs.Log2.{log2Of}
-use Rattle.gains.specs.declared.Centre.{Centre}
+use Rattle.layout.specs.declared.Centre.{Centre}
 use Rattle.gains.specs.declared.Wall.{Wall}
 use Rattle.gains.specs.declared.Wall.the-variants.{X, Y, Z}
 use Rattle.extent.specs.Kernel.{threshold, kernelOf, shapedOf, exponentOf}
@@ -35,11 +35,11 @@ responseY f c r = lookupOf (λ (i : ℕ). f (700 + i)) (bracketOf (centreKnots k
 
 unfoldable pub responseZ : Rows → Bool → Centre → Float → Float
 unfolding bracketOf lookupOf
-responseZ f deep c r = cond deep (lookupOf (λ (i : ℕ). f (1400 + i)) (bracketOf (centreKnots knots.Z) (c .z)) (bracketOf radiusKnots r)) one
+responseZ f deep c r = cond deep (lookupOf (λ (i : ℕ). f (1400 + i)) (bracketOf (centreKnots knots.Z) (c .z)) (bracketOf radiusKnots r)) one64
 
 -- lambda of `diffuse`
 unfoldable pub lambdaOf : Float → Float → Float
-lambdaOf d r = cond ((le (d ⊘ whole (pos 4)) r || le (d ⊘ whole (pos 4)) (dec 5 2)) && le threshold r) (whole (pos 25) ⊗ d ⊗ d ⊗ d ⊘ (whole (pos 4) ⊗ r)) zero
+lambdaOf d r = cond ((le (d ⊘ fromInt (pos 4)) r || le (d ⊘ fromInt (pos 4)) (dec 5 2)) && le threshold r) (fromInt (pos 25) ⊗ d ⊗ d ⊗ d ⊘ (fromInt (pos 4) ⊗ r)) zero64
 
 -- lambda of the nearest wall
 unfoldable pub weightOf : Centre → Bool → Float → Float
@@ -48,7 +48,7 @@ weightOf c deep r = lambdaOf (distanceOf (nearestWall c deep)) r
 
 -- where a wall stands on its axis
 abbrev pub wallAt : Bool → Float
-wallAt far = cond far one zero
+wallAt far = cond far one64 zero64
 
 -- the end response of a wall, by the kernel there: `sampled_endpoint_response`
 abbrev pub ended : Float → Float → Float → Bool → Float → Float
@@ -63,12 +63,12 @@ unfoldable pub endProduct : Wall → Rows → Centre → Float → Float → Flo
 unfolding shapedOf kernelOf exponentOf
 endProduct (X far d) f c r x y z = ended (f (endRow 1480 far)) (wallAt far) (c .x) false r ⊗ y ⊗ z
 endProduct (Y far d) f c r x y z = ended (f (endRow 1482 far)) (wallAt far) (c .y) false r ⊗ x ⊗ z
-endProduct (Z d) f c r x y z = ended (f 1485) one (c .z) true r ⊗ x ⊗ y
+endProduct (Z d) f c r x y z = ended (f 1485) one64 (c .z) true r ⊗ x ⊗ y
 
 -- shaped with the end response: 0.31640625 is half of 0.6328125
 unfoldable pub compensatedOf : Float → Float → Float → Float → Float
 unfolding exp2Of log2Of
-compensatedOf inside product lambda e = let field = dec 31640625 8 ⊗ (inside ⊕ lambda ⊗ product) in cond (lt zero field) (exp2Of (log2Of field ⊘ e)) zero
+compensatedOf inside product lambda e = let field = dec 31640625 8 ⊗ (inside ⊕ lambda ⊗ product) in cond (lt zero64 field) (exp2Of (log2Of field ⊘ e)) zero64
 
 -- a channel's value before the first normalising
 unfoldable pub diffuseOf : Rows → Bool → Centre → Float → Float
@@ -78,4 +78,4 @@ diffuseOf f deep c r =
     let y = responseY f c r in
     let z = responseZ f deep c r in
     let lambda = weightOf c deep r in
-    cond (eq lambda zero) (x ⊗ y ⊗ z) (compensatedOf (x ⊗ y ⊗ z) (endProduct (nearestWall c deep) f c r x y z) lambda (exponentOf r))
+    cond (eq lambda zero64) (x ⊗ y ⊗ z) (compensatedOf (x ⊗ y ⊗ z) (endProduct (nearestWall c deep) f c r x y z) lambda (exponentOf r))

@@ -2,4 +2,4 @@ pub mod Lookup
 pub mod Walls
 pub mod Diffuse
 pub mod Gains
-pub mod Gathered
+pub mod Steps

@@ -5,29 +5,28 @@ use mathlib.Core.Bool.{true, false, cond}
 use mathlib.Core.List.{List, [], _∷_, _++_}
 use lib.Ieee.{Float, nan, lt, le}
 use lib.ListN.{length, getD}
-use Rattle.doubles.specs.Arithmetic.{_⊕_, _⊖_, _⊗_, _⊘_}
-use Rattle.doubles.specs.Arithmetic.{zero as zero64}
+use Rattle.doubles.specs.Arithmetic.{_⊕_, _⊖_, _⊗_, _⊘_, zero64}
 use Rattle.field.specs.Knots.{Axis, X, Y, Z, centreKnot, radiusKnot}
-use Rattle.field.specs.Responses.{below}
+use Rattle.field.specs.Responses.{countBelow}
 use Rattle.gains.specs.declared.Bracket.{Bracket}
 
 -- f 0, f 1, .. up to f (n - 1)
-abbrev pub listed : (ℕ → Float) → ℕ → List Float
-listed f zero = []
-listed f (suc n) = listed f n ++ (f n ∷ [])
+abbrev pub tabulate : (ℕ → Float) → ℕ → List Float
+tabulate f zero = []
+tabulate f (suc n) = tabulate f n ++ (f n ∷ [])
 
 -- a number for each of n channels
 abbrev pub channels : ℕ → (ℕ → Float) → List Float
-channels n f = listed f n
+channels n f = tabulate f n
 
 -- the knots of a table
 abbrev pub centreKnots : Axis → List Float
-centreKnots X = listed (centreKnot X) 35
-centreKnots Y = listed (centreKnot Y) 35
-centreKnots Z = listed (centreKnot Z) 4
+centreKnots X = tabulate (centreKnot X) 35
+centreKnots Y = tabulate (centreKnot Y) 35
+centreKnots Z = tabulate (centreKnot Z) 4
 
 abbrev pub radiusKnots : List Float
-radiusKnots = listed radiusKnot 20
+radiusKnots = tabulate radiusKnot 20
 
 -- at one knot
 abbrev pub atKnot : ℕ → Bracket
@@ -41,7 +40,7 @@ betweenKnots knots v k = let a = getD knots (k - 1) nan in record { lower = k - 
 unfoldable pub bracketOf : List Float → Float → Bracket
 bracketOf knots v =
     cond (le v (getD knots 0 nan)) (atKnot 0)
-    (cond (le (getD knots (length knots - 1) nan) v) (atKnot (length knots - 1)) (betweenKnots knots v (below v knots)))
+    (cond (le (getD knots (length knots - 1) nan) v) (atKnot (length knots - 1)) (betweenKnots knots v (countBelow v knots)))
 
 -- a at t = 0 to b at t = 1
 abbrev pub mixed : Float → Float → Float → Float

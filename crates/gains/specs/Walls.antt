@@ -1,8 +1,8 @@
 -- The nearest wall, with its distance. Definitions only.
 use mathlib.Core.Bool.{Bool, true, false, cond}
 use lib.Ieee.{Float, lt}
-use Rattle.doubles.specs.Arithmetic.{_⊖_, one}
-use Rattle.gains.specs.declared.Centre.{Centre}
+use Rattle.doubles.specs.Arithmetic.{_⊖_, one64}
+use Rattle.layout.specs.declared.Centre.{Centre}
 use Rattle.gains.specs.declared.Wall.{Wall}
 use Rattle.gains.specs.declared.Wall.the-variants.{X, Y, Z}
 
@@ -17,11 +17,11 @@ nearerOf a b = cond (lt (distanceOf b) (distanceOf a)) b a
 
 -- the nearer wall on X, and on Y
 abbrev pub wallX : Float → Wall
-wallX x = nearerOf (X false x) (X true (one ⊖ x))
+wallX x = nearerOf (X false x) (X true (one64 ⊖ x))
 
 abbrev pub wallY : Float → Wall
-wallY y = nearerOf (Y false y) (Y true (one ⊖ y))
+wallY y = nearerOf (Y false y) (Y true (one64 ⊖ y))
 
 -- x, 1−x, y, 1−y and, with Z, 1−z only
 unfoldable pub nearestWall : Centre → Bool → Wall
-nearestWall c deep = let w = nearerOf (wallX (c .x)) (wallY (c .y)) in cond deep (nearerOf w (Z (one ⊖ c .z))) w
+nearestWall c deep = let w = nearerOf (wallX (c .x)) (wallY (c .y)) in cond deep (nearerOf w (Z (one64 ⊖ c .z))) w

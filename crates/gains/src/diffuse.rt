@@ -6,17 +6,16 @@ ghost use Prim.Native.Nat.{ℕ, _+_, _*_, _≤_};
 ghost use lib.Dec.{T, eqb};
 ghost use lib.Ieee.{Float, nan, lt, eq};
 ghost use lib.ListN.{length, getD, drop};
-ghost use Rattle.doubles.specs.Arithmetic.{_⊕_, _⊗_, _⊘_, dec, zero};
+ghost use Rattle.doubles.specs.Arithmetic.{_⊕_, _⊗_, _⊘_, dec, zero64};
 ghost use Rattle.approximations.specs.Exp2.{exp2Of};
 ghost use Rattle.approximations.specs.Log2.{log2Of};
 ghost use Rattle.extent.specs.Kernel.{shapedOf, exponentOf};
 ghost use Rattle.field.specs.Knots.{steps};
 ghost use Rattle.gains.specs.Walls.{nearestWall};
 ghost use Rattle.gains.specs.Diffuse.{placeRows, responseX, responseY, responseZ, lambdaOf, weightOf, compensatedOf, wallAt, ended, endRow, endProduct, diffuseOf};
-ghost use Rattle.gains.specs.Gathered.{aboveBefore, Gathered, scattered};
-ghost use Rattle.gains.specs.Lookup.{channels, listed, bracketOf, lookupOf};
+ghost use Rattle.gains.specs.Steps.Gathered.{aboveBefore, Gathered, scattered};
+ghost use Rattle.gains.specs.Lookup.{channels, tabulate, bracketOf, lookupOf};
 use crate::Bracket;
-use crate::Centre;
 use crate::Wall;
 use crate::lookup::bracket;
 use crate::lookup::lookup;
@@ -26,10 +25,10 @@ use crate::walls::nearest_wall;
 use approximations::approx_exp2;
 use approximations::approx_exp2_each;
 use approximations::approx_log2;
+use extent::ZERO_FIELD_THRESHOLD;
 use extent::compact_quartic_kernel;
 use extent::shaping_exponent;
-
-const THRESHOLD: f64 = 2.5e-5;
+use layout::Centre;
 
 const NEAR: f64 = 0.05;
 
@@ -40,7 +39,7 @@ fn lambda(distance: f64, radius: f64) -> f64
     ensures { λ r. ⌜ r ≡ lambdaOf distance radius ⌝ }
 {
     let near = (distance / 4.0 <= radius) | (distance / 4.0 <= NEAR);
-    if near & (radius >= THRESHOLD) {
+    if near & (radius >= ZERO_FIELD_THRESHOLD) {
         25.0 * distance * distance * distance / (4.0 * radius)
     } else {
         0.0
@@ -50,7 +49,8 @@ fn lambda(distance: f64, radius: f64) -> f64
 // x * y * z of each channel.
 fn interior(out: &mut [f64; 24], n: usize, x: &[f64; 24], y: &[f64; 24], z: &[f64; 24])
     requires { ⌜ n ≤ 24 ⌝ }
-    ensures { λ _. ⌜ now (out .exit) ≡ channels n (λ (k : ℕ). getD (now (x .entry)) k nan ⊗ getD (now (y .entry)) k nan ⊗ getD (now (z .entry)) k nan) ++ drop n (now (out .entry)) ⌝ }
+    ensures { λ _. ⌜ now (out .exit) ≡ channels n (λ (k : ℕ). getD (now (x .entry)) k nan ⊗ getD (now (y .entry)) k nan ⊗ getD
+        (now (z .entry)) k nan) ++ drop n (now (out .entry)) ⌝ }
 {
     let values: &mut [f64] = out;
     let mut k = 0usize;
@@ -83,7 +83,8 @@ fn shaped_ends(
     exponent: f64,
 )
     requires { ⌜ (n ≤ 24) × (ends + n ≤ length (now store)) ⌝ }
-    ensures { λ _. ⌜ now (out .exit) ≡ channels n (λ (k : ℕ). shapedOf (kernel ⊗ getD (now (store .entry)) (ends + k) nan) exponent) ++ drop n (now (out .entry)) ⌝ }
+    ensures { λ _. ⌜ now (out .exit) ≡ channels n (λ (k : ℕ). shapedOf (kernel ⊗ getD (now (store .entry)) (ends + k) nan) exponent)
+        ++ drop n (now (out .entry)) ⌝ }
 {
     let values: &mut [f64] = out;
     let mut k = 0usize;
@@ -104,7 +105,9 @@ fn wall_fields(
     weight: f64,
 )
     requires { ⌜ n ≤ 24 ⌝ }
-    ensures { λ _. ⌜ now (out .exit) ≡ channels n (λ (k : ℕ). dec 31640625 8 ⊗ (getD (now (out .entry)) k nan ⊕ weight ⊗ (getD (now (ends .entry)) k nan ⊗ getD (now (a .entry)) k nan ⊗ getD (now (b .entry)) k nan))) ++ drop n (now (out .entry)) ⌝ }
+    ensures { λ _. ⌜ now (out .exit) ≡ channels n (λ (k : ℕ). dec 31640625 8 ⊗
+        (getD (now (out .entry)) k nan ⊕ weight ⊗ (getD (now (ends .entry)) k nan ⊗ getD (now (a .entry)) k nan ⊗ getD
+        (now (b .entry)) k nan))) ++ drop n (now (out .entry)) ⌝ }
 {
     let values: &mut [f64] = out;
     let mut k = 0usize;
@@ -157,7 +160,8 @@ fn scatter(out: &mut [f64; 24], n: usize, gathered: &[f64; 24])
 // field ^ (1 / exponent) by the approximations; 0 where the field is not above 0.
 fn unshape(out: &mut [f64; 24], n: usize, exponent: f64)
     requires { ⌜ n ≤ 24 ⌝ }
-    ensures { λ _. ⌜ now (out .exit) ≡ channels n (λ (k : ℕ). cond (lt zero (getD (now (out .entry)) k nan)) (exp2Of (log2Of (getD (now (out .entry)) k nan) ⊘ exponent)) zero) ++ drop n (now (out .entry)) ⌝ }
+    ensures { λ _. ⌜ now (out .exit) ≡ channels n (λ (k : ℕ). cond (lt zero64 (getD (now (out .entry)) k nan))
+        (exp2Of (log2Of (getD (now (out .entry)) k nan) ⊘ exponent)) zero64) ++ drop n (now (out .entry)) ⌝ }
 {
     let mut l = [0.0f64; 24];
     let m = gather(&mut l, n, out, exponent);
@@ -179,7 +183,9 @@ fn near_wall(
     exponent: f64,
 )
     requires { ⌜ (n ≤ 24) × (ends + n ≤ length (now store)) ⌝ }
-    ensures { λ _. ⌜ now (out .exit) ≡ channels n (λ (k : ℕ). compensatedOf (getD (now (out .entry)) k nan) (shapedOf (kernel ⊗ getD (now (store .entry)) (ends + k) nan) exponent ⊗ getD (now (a .entry)) k nan ⊗ getD (now (b .entry)) k nan) weight exponent) ++ drop n (now (out .entry)) ⌝ }
+    ensures { λ _. ⌜ now (out .exit) ≡ channels n (λ (k : ℕ). compensatedOf (getD (now (out .entry)) k nan)
+        (shapedOf (kernel ⊗ getD (now (store .entry)) (ends + k) nan) exponent ⊗ getD (now (a .entry)) k nan ⊗ getD
+        (now (b .entry)) k nan) weight exponent) ++ drop n (now (out .entry)) ⌝ }
 {
     let mut e = [0.0f64; 24];
     shaped_ends(&mut e, n, store, ends, kernel, exponent);
@@ -202,7 +208,9 @@ fn with_end(
     weight: f64,
 )
     requires { ⌜ (n ≤ 24) × (ends + n ≤ length (now store)) ⌝ }
-    ensures { λ _. ⌜ now (out .exit) ≡ channels n (λ (k : ℕ). compensatedOf (getD (now (out .entry)) k nan) (ended (getD (now (store .entry)) (ends + k) nan) u center height radius ⊗ getD (now (a .entry)) k nan ⊗ getD (now (b .entry)) k nan) weight (exponentOf radius)) ++ drop n (now (out .entry)) ⌝ }
+    ensures { λ _. ⌜ now (out .exit) ≡ channels n (λ (k : ℕ). compensatedOf (getD (now (out .entry)) k nan)
+        (ended (getD (now (store .entry)) (ends + k) nan) u center height radius ⊗ getD (now (a .entry)) k nan ⊗ getD
+        (now (b .entry)) k nan) weight (exponentOf radius)) ++ drop n (now (out .entry)) ⌝ }
 {
     let exponent = shaping_exponent(radius);
     let kernel = compact_quartic_kernel(u, center, radius, height);
@@ -242,7 +250,9 @@ fn at_wall(
     weight: f64,
 )
     requires { ⌜ (n ≤ 24) × (base + 1486 * n ≤ length (now store)) ⌝ }
-    ensures { λ _. ⌜ now (out .exit) ≡ channels n (λ (k : ℕ). compensatedOf (getD (now (out .entry)) k nan) (endProduct wall (placeRows (now (store .entry)) base n k) c radius (getD (now (x .entry)) k nan) (getD (now (y .entry)) k nan) (getD (now (z .entry)) k nan)) weight (exponentOf radius)) ++ drop n (now (out .entry)) ⌝ }
+    ensures { λ _. ⌜ now (out .exit) ≡ channels n (λ (k : ℕ). compensatedOf (getD (now (out .entry)) k nan)
+        (endProduct wall (placeRows (now (store .entry)) base n k) c radius (getD (now (x .entry)) k nan) (getD (now (y .entry)) k nan)
+        (getD (now (z .entry)) k nan)) weight (exponentOf radius)) ++ drop n (now (out .entry)) ⌝ }
 {
     match wall {
         Wall::X(far, _) => {
@@ -298,7 +308,11 @@ fn by_wall(
     z: &[f64; 24],
 )
     requires { ⌜ (n ≤ 24) × (base + 1486 * n ≤ length (now store)) ⌝ }
-    ensures { λ _. ⌜ now (out .exit) ≡ cond (eq (weightOf c deep radius) zero) (now (out .entry)) (channels n (λ (k : ℕ). compensatedOf (getD (now (out .entry)) k nan) (endProduct (nearestWall c deep) (placeRows (now (store .entry)) base n k) c radius (getD (now (x .entry)) k nan) (getD (now (y .entry)) k nan) (getD (now (z .entry)) k nan)) (weightOf c deep radius) (exponentOf radius)) ++ drop n (now (out .entry))) ⌝ }
+    ensures { λ _. ⌜ now (out .exit) ≡ cond (eq (weightOf c deep radius) zero64) (now (out .entry))
+        (channels n (λ (k : ℕ). compensatedOf (getD (now (out .entry)) k nan)
+        (endProduct (nearestWall c deep) (placeRows (now (store .entry)) base n k) c radius (getD (now (x .entry)) k nan)
+        (getD (now (y .entry)) k nan) (getD (now (z .entry)) k nan)) (weightOf c deep radius) (exponentOf radius)) ++ drop n
+        (now (out .entry))) ⌝ }
 {
     let wall = nearest_wall(c, deep);
     let weight = lambda(distance_of(wall), radius);
@@ -320,7 +334,8 @@ fn on_axis(
 )
     requires { ⌜ (n ≤ 24) × T (eqb last 34 || eqb last 3) × (r .lower ≤ r .upper) × (r .upper ≤ 19) ⌝ }
     requires { ⌜ from + (last * 20 + 20) * n ≤ length (now store) ⌝ }
-    ensures { λ _. ⌜ now (out .exit) ≡ channels n (λ (k : ℕ). lookupOf (λ (i : ℕ). getD (now (store .entry)) (from + (i * n + k)) nan) (bracketOf (listed (steps last) (last + 1)) value) r) ++ drop n (now (out .entry)) ⌝ }
+    ensures { λ _. ⌜ now (out .exit) ≡ channels n (λ (k : ℕ). lookupOf (λ (i : ℕ). getD (now (store .entry)) (from + (i * n + k)) nan)
+        (bracketOf (tabulate (steps last) (last + 1)) value) r) ++ drop n (now (out .entry)) ⌝ }
 {
     lookup(out, store, from, n, bracket(value, last), r);
 }
@@ -338,9 +353,12 @@ fn on_axes(
     radius: f64,
 )
     requires { ⌜ (n ≤ 24) × (base + 1486 * n ≤ length (now store)) ⌝ }
-    ensures { λ _. ⌜ now (x .exit) ≡ channels n (λ (k : ℕ). responseX (placeRows (now (store .entry)) base n k) c radius) ++ drop n (now (x .entry)) ⌝ }
-    ensures { λ _. ⌜ now (y .exit) ≡ channels n (λ (k : ℕ). responseY (placeRows (now (store .entry)) base n k) c radius) ++ drop n (now (y .entry)) ⌝ }
-    ensures { λ _. ⌜ now (z .exit) ≡ cond deep (channels n (λ (k : ℕ). responseZ (placeRows (now (store .entry)) base n k) deep c radius) ++ drop n (now (z .entry))) (now (z .entry)) ⌝ }
+    ensures { λ _. ⌜ now (x .exit) ≡ channels n (λ (k : ℕ). responseX (placeRows (now (store .entry)) base n k) c radius) ++ drop n
+        (now (x .entry)) ⌝ }
+    ensures { λ _. ⌜ now (y .exit) ≡ channels n (λ (k : ℕ). responseY (placeRows (now (store .entry)) base n k) c radius) ++ drop n
+        (now (y .entry)) ⌝ }
+    ensures { λ _. ⌜ now (z .exit) ≡ cond deep (channels n (λ (k : ℕ). responseZ
+        (placeRows (now (store .entry)) base n k) deep c radius) ++ drop n (now (z .entry))) (now (z .entry)) ⌝ }
 {
     let r = radius_bracket(radius);
     on_axis(x, store, base, n, c.x, 34, r);
@@ -361,7 +379,8 @@ pub(crate) fn diffuse(
     radius: f64,
 )
     requires { ⌜ (n ≤ 24) × (base + 1486 * n ≤ length (now store)) ⌝ }
-    ensures { λ _. ⌜ now (out .exit) ≡ channels n (λ (k : ℕ). diffuseOf (placeRows (now (store .entry)) base n k) deep c radius) ++ drop n (now (out .entry)) ⌝ }
+    ensures { λ _. ⌜ now (out .exit) ≡ channels n (λ (k : ℕ). diffuseOf (placeRows (now (store .entry)) base n k) deep c radius)
+        ++ drop n (now (out .entry)) ⌝ }
 {
     let mut x = [0.0f64; 24];
     let mut y = [0.0f64; 24];

@@ -4,27 +4,24 @@ ghost use mathlib.Core.List.{_++_, map};
 ghost use Prim.Native.Nat.{ℕ, _+_, _*_, _≤_};
 ghost use lib.Ieee.{Float};
 ghost use lib.ListN.{length, take, drop};
-ghost use Rattle.doubles.specs.Arithmetic.{_⊕_, _⊗_, _⊘_, dec, zero};
+ghost use Rattle.doubles.specs.Arithmetic.{_⊕_, _⊗_, _⊘_, dec, zero64};
 ghost use Rattle.doubles.specs.Norm.{sumSquares};
 ghost use Rattle.gains.specs.Lookup.{channels};
 ghost use Rattle.gains.specs.Diffuse.{placeRows, diffuseOf};
-ghost use Rattle.gains.specs.Gains.{normalizedOf, blendOf, blended, zipped, clampedCentre, projectable, projected};
+ghost use Rattle.gains.specs.Gains.{normalizedOf, blendOf, blended, clampedCentre, projectable, projected};
+ghost use Rattle.lists.specs.Lists.{zipWith};
 use crate::Blend;
-use crate::Centre;
 use crate::diffuse::diffuse;
 use approximations::cosine;
 use approximations::sine;
 use doubles::clamp;
 use doubles::is_finite;
 use doubles::sqrt;
-
-const THRESHOLD: f64 = 2.5e-5;
-
-const PI: f64 = 3.141592653589793;
-
-const PLACE: usize = 35664;
-
-const STORE: usize = 285312;
+use extent::ZERO_FIELD_THRESHOLD;
+use field::PI;
+use field::PLACE;
+use field::STORE;
+use layout::Centre;
 
 // The squares folded in channel order from 0.
 fn sum_squares(v: &[f64], n: usize) -> f64
@@ -53,7 +50,7 @@ fn divide(v: &mut [f64], n: usize, by: f64)
 
 fn clear(v: &mut [f64], n: usize)
     requires { ⌜ n ≤ length (now v) ⌝ }
-    ensures { λ _. ⌜ now (v .exit) ≡ map (λ (x : Float). zero) (take n (now (v .entry))) ++ drop n (now (v .entry)) ⌝ }
+    ensures { λ _. ⌜ now (v .exit) ≡ map (λ (x : Float). zero64) (take n (now (v .entry))) ++ drop n (now (v .entry)) ⌝ }
 {
     let mut k = 0usize;
     while k < n {
@@ -103,7 +100,7 @@ fn normalize_into(out: &mut [f64], v: &[f64], n: usize)
 fn blend_of(mean: u64, radius: f64) -> Blend
     ensures { λ r. ⌜ r ≡ blendOf mean radius ⌝ }
 {
-    if (mean == 0) | (radius < THRESHOLD) {
+    if (mean == 0) | (radius < ZERO_FIELD_THRESHOLD) {
         return Blend::Point;
     }
     if radius <= 0.05 {
@@ -116,7 +113,8 @@ fn blend_of(mean: u64, radius: f64) -> Blend
 // The weighted sum of point gains and field.
 fn mix_points(v: &mut [f64], points: &[f64], n: usize, a: f64, b: f64)
     requires { ⌜ (n ≤ length (now v)) × (n ≤ length (now points)) ⌝ }
-    ensures { λ _. ⌜ now (v .exit) ≡ zipped (λ (p d : Float). a ⊗ p ⊕ b ⊗ d) (take n (now (points .entry))) (take n (now (v .entry))) ++ drop n (now (v .entry)) ⌝ }
+    ensures { λ _. ⌜ now (v .exit) ≡ zipWith (λ (p d : Float). a ⊗ p ⊕ b ⊗ d) (take n (now (points .entry))) (take n (now (v .entry)))
+        ++ drop n (now (v .entry)) ⌝ }
 {
     let mut k = 0usize;
     while k < n {
@@ -168,7 +166,8 @@ fn field_gains(
     c: Centre,
 )
     requires { ⌜ (n ≤ 24) × (n ≤ length (now out)) × (base + 1486 * n ≤ length (now store)) ⌝ }
-    ensures { λ _. ⌜ now (out .exit) ≡ normalizedOf (channels n (λ (k : ℕ). diffuseOf (placeRows (now (store .entry)) base n k) deep (clampedCentre c) radius)) ++ drop n (now (out .entry)) ⌝ }
+    ensures { λ _. ⌜ now (out .exit) ≡ normalizedOf (channels n
+        (λ (k : ℕ). diffuseOf (placeRows (now (store .entry)) base n k) deep (clampedCentre c) radius)) ++ drop n (now (out .entry)) ⌝ }
 {
     let mut v = [0.0f64; 24];
     diffuse(&mut v, store, base, n, deep, clamped(c), radius);
@@ -178,7 +177,8 @@ fn field_gains(
 // The blend of point gains and field.
 fn mix(gains: &mut [f64], points: &[f64], n: usize, blend: Blend)
     requires { ⌜ (n ≤ length (now gains)) × (n ≤ length (now points)) ⌝ }
-    ensures { λ _. ⌜ now (gains .exit) ≡ blended blend (take n (now (points .entry))) (take n (now (gains .entry))) ++ drop n (now (gains .entry)) ⌝ }
+    ensures { λ _. ⌜ now (gains .exit) ≡ blended blend (take n (now (points .entry))) (take n (now (gains .entry))) ++ drop n
+        (now (gains .entry)) ⌝ }
 {
     match blend {
         Blend::Point => {
@@ -216,7 +216,8 @@ pub fn project(
     points: &[f64],
 ) -> bool
     ensures { λ r. ⌜ r ≡ projectable (length (now (store .entry))) p n (length (now (points .entry))) (length (now (gains .entry))) ⌝ }
-    ensures { λ r. ⌜ now (gains .exit) ≡ projected (now (store .entry)) p n deep mean radius c (now (points .entry)) (now (gains .entry)) ⌝ }
+    ensures { λ r. ⌜ now (gains .exit) ≡ projected (now (store .entry)) p n deep mean radius c (now (points .entry))
+        (now (gains .entry)) ⌝ }
 {
     if !is_projectable(store.len(), p, n, points.len(), gains.len()) {
         return false;

@@ -2,8 +2,7 @@
 ghost use mathlib.Core.Path.{_≡_};
 ghost use Prim.Native.Nat.{_≤_};
 ghost use Rattle.field.specs.Knots.{steps, radiusKnot};
-
-const MAX_RADIUS: f64 = 0.7;
+use field::MAX_RADIUS;
 
 // i / n: the centre knots i / 34 and i / 3.
 pub(crate) fn step(i: usize, n: usize) -> f64

@@ -8,13 +8,6 @@ mod walls;
 
 pub use gains::project;
 
-// A centre.
-pub struct Centre {
-    pub x: f64,
-    pub y: f64,
-    pub z: f64,
-}
-
 // Two knots, and where a value stands between them.
 pub struct Bracket {
     pub lower: usize,

@@ -7,15 +7,13 @@ ghost use lib.Dec.{T, eqb};
 ghost use lib.Ieee.{nan, lt};
 ghost use lib.ListN.{length, getD, drop};
 ghost use Rattle.field.specs.Knots.{steps, radiusKnot};
-ghost use Rattle.gains.specs.Lookup.{listed, channels, radiusKnots, bracketOf, mixed, lookupOf, Found};
+ghost use Rattle.gains.specs.Lookup.{tabulate, channels, radiusKnots, bracketOf, mixed, lookupOf, Found};
 use crate::Bracket;
 use crate::knot_tables::centre_knot;
 use crate::knot_tables::round_knot;
 use crate::knots::radius_knot;
 use crate::knots::step;
-
-// 1.5 * 2 ^ 52. From there on the doubles are the whole numbers.
-const SHIFT: f64 = 6755399441055744.0;
+use doubles::SHIFT;
 
 // The knots i / last: the first one from `from` on that is not below value, or the last.
 fn first_step(value: f64, last: usize, from: usize) -> usize
@@ -79,7 +77,7 @@ fn knot_after(value: f64, last: usize, g: usize) -> usize
 // The knots about value among i / last: the end one at or beyond an end. A NaN stays a NaN.
 pub(crate) fn bracket(value: f64, last: usize) -> Bracket
     requires { ⌜ T (eqb last 34 || eqb last 3) ⌝ }
-    ensures { λ r. ⌜ r ≡ bracketOf (listed (steps last) (last + 1)) value ⌝ }
+    ensures { λ r. ⌜ r ≡ bracketOf (tabulate (steps last) (last + 1)) value ⌝ }
 {
     if value <= 0.0 {
         return Bracket {
@@ -205,7 +203,8 @@ pub(crate) fn lookup(
 )
     requires { ⌜ (n ≤ 24) × (c .lower ≤ c .upper) × (c .upper ≤ 34) × (r .lower ≤ r .upper) × (r .upper ≤ 19) ⌝ }
     requires { ⌜ from + (c .upper * 20 + 20) * n ≤ length (now store) ⌝ }
-    ensures { λ _. ⌜ now (out .exit) ≡ channels n (λ (k : ℕ). lookupOf (λ (i : ℕ). getD (now (store .entry)) (from + (i * n + k)) nan) c r) ++ drop n (now (out .entry)) ⌝ }
+    ensures { λ _. ⌜ now (out .exit) ≡ channels n (λ (k : ℕ). lookupOf
+        (λ (i : ℕ). getD (now (store .entry)) (from + (i * n + k)) nan) c r) ++ drop n (now (out .entry)) ⌝ }
 {
     let numbers: &mut [f64] = out;
     let p = from + (c.lower * 20 + r.lower) * n;

@@ -1,8 +1,8 @@
 // The nearest wall.
 ghost use mathlib.Core.Path.{_≡_};
 ghost use Rattle.gains.specs.Walls.{distanceOf, nearerOf, wallX, wallY, nearestWall};
-use crate::Centre;
 use crate::Wall;
+use layout::Centre;
 
 // The nearest wall on X: at 0 or at 1, a tie to the first.
 fn wall_x(x: f64) -> Wall

@@ -6,7 +6,7 @@ use native.Mathlib.Numerals.{add-one}
 use native.Mathlib.Omega.{arith}
 use lib.ListN.{length, take, drop, set, getD, length-set, length-append}
 use lib.Seq.{paste, paste-zero, paste-suc, length-paste, length-take-le, set-append-left, take-set-lt, drop-set-lt}
-use Rattle.keys.specs.Keys.{twoParts}
+use Rattle.keys.specs.Steps.{twoParts}
 
 -- ---- what stands before a part is written apart from it
 pub paste-set : {A : Type 0} (d : List A) (at : ℕ) (s : List A) (j k : ℕ) (v : A) → k < at → at ≤ length d → set (paste d at s j) k v ≡ paste (set d k v) at s j
@@ -58,26 +58,3 @@ module _ (a : ℕ) (xs : List ℕ) (b : ℕ) (ys : List ℕ) (n : ℕ) (old : Li
   -- at the end all are written
   pub packed-done : (key : List ℕ) (i : ℕ) → Packed a xs b ys n old key i → n ≤ i → key ≡ twoParts a xs b ys n old
   packed-done key i w h = let e : i ≡ n = omega arith in rw (← e) (w .same)
-
--- ---- the first i of xs stand from a place on
-pub record Pasted {A : Type 0} (at : ℕ) (xs : List A) (n : ℕ) (old out : List A) (i : ℕ) : Type 0 where
-  pub firsts : n ≤ length xs
-  pub room : at + n ≤ length old
-  pub long : length out ≡ length old
-  pub same : out ≡ paste old at xs i
-
-module _ {A : Type 0} (at : ℕ) (xs : List A) (n : ℕ) (old : List A) where
-  pub pasted-none : n ≤ length xs → at + n ≤ length old → Pasted at xs n old old 0
-  pasted-none f r = record { firsts = f; room = r; long = refl; same = paste-zero old at xs }
-
-  pub pasted-more : (out : List A) (i k : ℕ) (d x : A) → Pasted at xs n old out i → i < n → k ≡ at + i → x ≡ getD xs i d → Pasted at xs n old (set out k x) (i + 1)
-  pasted-more out i k d x w h e p =
-      record {
-        firsts = w .firsts;
-        room = w .room;
-        long = length-set out k x ∙ w .long;
-        same = rw (w .same, e, p, add-one i) (paste-suc old at xs i d (omega arith) (omega arith));
-      }
-
-  pub pasted-done : (out : List A) (i : ℕ) → Pasted at xs n old out i → i ≡ n → out ≡ paste old at xs n
-  pasted-done out i w e = rw (← e) (w .same)

@@ -12,8 +12,7 @@ use lib.Ieee.Bits.{ofBits-toBits}
 use lib.Ieee.Fits.{add-fits, down-pos}
 use lib.Ieee.Scale.{finite}
 use mir.Facts.{and-yes, or-yes}
-use Rattle.doubles.specs.Arithmetic.{_⊕_}
-use Rattle.doubles.specs.Arithmetic.{zero as zero64}
+use Rattle.doubles.specs.Arithmetic.{_⊕_, zero64}
 use Rattle.doubles.proofs.AddZero.{plus-zero, add-zero-same, zero-is}
 use Rattle.layout.proofs.SameNumbers.{beq→eq, eq-refl, eq-sym, eq-trans}
 use Rattle.keys.specs.Keys.{pattern}

@@ -6,14 +6,15 @@ use native.Mathlib.Nat.{zero-add, suc-add, add-assoc}
 use native.Mathlib.Omega.{arith}
 use lib.ListN.{length, take, drop, set, getD, replicate, length-append, length-map, length-drop, length-replicate, length-take}
 use lib.Seq.{paste, take-append-add, drop-append-add, drop-append-le}
-use Rattle.lists.specs.Lists.{total, concat}
+use Rattle.lists.specs.Lists.{total, flatten}
 use Rattle.lists.proofs.Takes.{map-take}
 use Rattle.layout.specs.declared.Layout.{Layout}
 use Rattle.layout.specs.Channels.{channelsOf, channelName}
 use Rattle.layout.specs.Topology.{usedLayers, usedRows, usedAnchors, layerCount, rowCount, anchorName}
 use Rattle.layout.proofs.Sizes.{Sized, rows-fit, anchors-fit}
 use Rattle.layout.proofs.TopologyLists.{take-taken}
-use Rattle.keys.specs.Keys.{filledTo, flagNumber, keyWords, zPattern, yPattern, xPattern, twoParts, topologyParts}
+use Rattle.keys.specs.Keys.{filledTo, flagNumber}
+use Rattle.keys.specs.Steps.{packedNumbers, zPattern, yPattern, xPattern, twoParts, topologyParts}
 
 -- ---- one of several parts
 module _ {A : Type 0} where
@@ -23,10 +24,10 @@ module _ {A : Type 0} where
   paste-behind : (p q s : List A) (at n : ℕ) → paste (p ++ q) (length p + at) s n ≡ p ++ paste q at s n
   paste-behind p q s at n = rw (add-assoc (length p) at n, take-append-add p q at, drop-append-add p q (at + n), append-assoc p (take at q) (take n s), append-assoc p (take at q ++ take n s) (drop (at + n) q))
 
-pub paste-part : (ps : List (List ℕ)) (k at : ℕ) (s : List ℕ) (n : ℕ) → k < length ps → at ≡ total (map length (take k ps)) → n ≤ length (getD ps k []) → paste (concat ps) at s n ≡ concat (set ps k (take n s ++ drop n (getD ps k [])))
+pub paste-part : (ps : List (List ℕ)) (k at : ℕ) (s : List ℕ) (n : ℕ) → k < length ps → at ≡ total (map length (take k ps)) → n ≤ length (getD ps k []) → paste (flatten ps) at s n ≡ flatten (set ps k (take n s ++ drop n (getD ps k [])))
 paste-part [] k at s n h e r = absurd (omega arith)
-paste-part (p ∷ ps) zero at s n h e r = rw e (paste-front p (concat ps) s n r)
-paste-part (p ∷ ps) (suc k) at s n h e r = rw e (paste-behind p (concat ps) s (total (map length (take k ps))) n ∙ ap (λ (q : List ℕ). p ++ q) (paste-part ps k (total (map length (take k ps))) s n (omega arith) refl r))
+paste-part (p ∷ ps) zero at s n h e r = rw e (paste-front p (flatten ps) s n r)
+paste-part (p ∷ ps) (suc k) at s n h e r = rw e (paste-behind p (flatten ps) s (total (map length (take k ps))) n ∙ ap (λ (q : List ℕ). p ++ q) (paste-part ps k (total (map length (take k ps))) s n (omega arith) refl r))
 
 set-behind : (p q : List ℕ) (k v : ℕ) → set (p ++ q) (length p + k) v ≡ p ++ set q k v
 set-behind [] q k v = rw zero-add
@@ -46,13 +47,13 @@ module _ {A : Type 0} (xs : List A) (j m n : ℕ) (e : length (take j xs) ≡ n)
       let k : length (map f (take j xs)) ≡ n = length-map (take j xs) f ∙ e in
       rw (t, k)
 
-  part-filled : (f : A → ℕ) (ps : List (List ℕ)) (k at : ℕ) → k < length ps → at ≡ total (map length (take k ps)) → getD ps k [] ≡ replicate m 0 → paste (concat ps) at (map f xs) n ≡ concat (set ps k (filledTo m (map f (take j xs))))
+  part-filled : (f : A → ℕ) (ps : List (List ℕ)) (k at : ℕ) → k < length ps → at ≡ total (map length (take k ps)) → getD ps k [] ≡ replicate m 0 → paste (flatten ps) at (map f xs) n ≡ flatten (set ps k (filledTo m (map f (take j xs))))
   part-filled f ps k at r q z =
       paste-part ps k at (map f xs) n r q (rw (z, length-replicate) h)
-      ∙ ap (λ (p : List ℕ). concat (set ps k p)) (ap (λ (p : List ℕ). take n (map f xs) ++ drop n p) z ∙ filled-is f)
+      ∙ ap (λ (p : List ℕ). flatten (set ps k p)) (ap (λ (p : List ℕ). take n (map f xs) ++ drop n p) z ∙ filled-is f)
 
   -- two of them
-  pub two-filled : (f g : A → ℕ) (ps : List (List ℕ)) (i k at to : ℕ) → i < length ps → at ≡ total (map length (take i ps)) → getD ps i [] ≡ replicate m 0 → k < length (set ps i (filledTo m (map f (take j xs)))) → to ≡ total (map length (take k (set ps i (filledTo m (map f (take j xs)))))) → getD (set ps i (filledTo m (map f (take j xs)))) k [] ≡ replicate m 0 → twoParts at (map f xs) to (map g xs) n (concat ps) ≡ concat (set (set ps i (filledTo m (map f (take j xs)))) k (filledTo m (map g (take j xs))))
+  pub two-filled : (f g : A → ℕ) (ps : List (List ℕ)) (i k at to : ℕ) → i < length ps → at ≡ total (map length (take i ps)) → getD ps i [] ≡ replicate m 0 → k < length (set ps i (filledTo m (map f (take j xs)))) → to ≡ total (map length (take k (set ps i (filledTo m (map f (take j xs)))))) → getD (set ps i (filledTo m (map f (take j xs)))) k [] ≡ replicate m 0 → twoParts at (map f xs) to (map g xs) n (flatten ps) ≡ flatten (set (set ps i (filledTo m (map f (take j xs)))) k (filledTo m (map g (take j xs))))
   two-filled f g ps i k at to r q z u v w =
       ap (λ (p : List ℕ). paste p to (map g xs) n) (part-filled f ps i at r q z)
       ∙ part-filled g (set ps i (filledTo m (map f (take j xs)))) k to u v w
@@ -119,27 +120,27 @@ module _ (l : Layout) (s : Sized l) where
   layers-fit : length (usedLayers l) ≤ 4
   layers-fit = rw length-take (omega (arith, s .layers))
 
-  channels-written : (z c d e f g h t : List ℕ) → z ≡ replicate 24 0 → twoParts 0 (map channelName (l .channels)) 24 (map flagNumber (l .channels)) (length (channelsOf l)) (concat (z ∷ z ∷ c ∷ d ∷ e ∷ f ∷ g ∷ h ∷ t ∷ [])) ≡ concat (names l ∷ flags l ∷ c ∷ d ∷ e ∷ f ∷ g ∷ h ∷ t ∷ [])
+  channels-written : (z c d e f g h t : List ℕ) → z ≡ replicate 24 0 → twoParts 0 (map channelName (l .channels)) 24 (map flagNumber (l .channels)) (length (channelsOf l)) (flatten (z ∷ z ∷ c ∷ d ∷ e ∷ f ∷ g ∷ h ∷ t ∷ [])) ≡ flatten (names l ∷ flags l ∷ c ∷ d ∷ e ∷ f ∷ g ∷ h ∷ t ∷ [])
   channels-written z c d e f g h t q =
       let w = parts-long l s in
       two-filled (l .channels) (l .used) 24 (length (channelsOf l)) refl channels-fit channelName flagNumber (z ∷ z ∷ c ∷ d ∷ e ∷ f ∷ g ∷ h ∷ t ∷ []) 0 1 0 24 (omega arith) refl q (omega arith) (omega arith) q
 
-  layers-written : (a b z d e g h t : List ℕ) → length a ≡ 24 → length b ≡ 24 → length d ≡ 24 → length e ≡ 24 → z ≡ replicate 4 0 → twoParts 48 (map layerCount (l .layers)) 100 (map zPattern (l .layers)) (length (usedLayers l)) (concat (a ∷ b ∷ z ∷ d ∷ e ∷ z ∷ g ∷ h ∷ t ∷ [])) ≡ concat (a ∷ b ∷ layerCounts l ∷ d ∷ e ∷ zs l ∷ g ∷ h ∷ t ∷ [])
+  layers-written : (a b z d e g h t : List ℕ) → length a ≡ 24 → length b ≡ 24 → length d ≡ 24 → length e ≡ 24 → z ≡ replicate 4 0 → twoParts 48 (map layerCount (l .layers)) 100 (map zPattern (l .layers)) (length (usedLayers l)) (flatten (a ∷ b ∷ z ∷ d ∷ e ∷ z ∷ g ∷ h ∷ t ∷ [])) ≡ flatten (a ∷ b ∷ layerCounts l ∷ d ∷ e ∷ zs l ∷ g ∷ h ∷ t ∷ [])
   layers-written a b z d e g h t la lb ld le q =
       let w = parts-long l s in
       two-filled (l .layers) (l .depth) 4 (length (usedLayers l)) refl layers-fit layerCount zPattern (a ∷ b ∷ z ∷ d ∷ e ∷ z ∷ g ∷ h ∷ t ∷ []) 2 5 48 100 (omega arith) (omega arith) q (omega arith) (omega arith) q
 
-  rows-written : (a b c z e f h t : List ℕ) → length a ≡ 24 → length b ≡ 24 → length c ≡ 4 → length e ≡ 24 → length f ≡ 4 → z ≡ replicate 24 0 → twoParts 52 (map rowCount (l .rows)) 104 (map yPattern (l .rows)) (length (usedRows l)) (concat (a ∷ b ∷ c ∷ z ∷ e ∷ f ∷ z ∷ h ∷ t ∷ [])) ≡ concat (a ∷ b ∷ c ∷ rowCounts l ∷ e ∷ f ∷ ys l ∷ h ∷ t ∷ [])
+  rows-written : (a b c z e f h t : List ℕ) → length a ≡ 24 → length b ≡ 24 → length c ≡ 4 → length e ≡ 24 → length f ≡ 4 → z ≡ replicate 24 0 → twoParts 52 (map rowCount (l .rows)) 104 (map yPattern (l .rows)) (length (usedRows l)) (flatten (a ∷ b ∷ c ∷ z ∷ e ∷ f ∷ z ∷ h ∷ t ∷ [])) ≡ flatten (a ∷ b ∷ c ∷ rowCounts l ∷ e ∷ f ∷ ys l ∷ h ∷ t ∷ [])
   rows-written a b c z e f h t la lb lc le lf q =
       let w = parts-long l s in
       two-filled (l .rows) (total (map layerCount (usedLayers l))) 24 (length (usedRows l)) refl (rows-fit l s) rowCount yPattern (a ∷ b ∷ c ∷ z ∷ e ∷ f ∷ z ∷ h ∷ t ∷ []) 3 6 52 104 (omega arith) (omega arith) q (omega arith) (omega arith) q
 
-  anchors-written : (a b c d z f g t : List ℕ) → length a ≡ 24 → length b ≡ 24 → length c ≡ 4 → length d ≡ 24 → length f ≡ 4 → length g ≡ 24 → z ≡ replicate 24 0 → twoParts 76 (map anchorName (l .anchors)) 128 (map xPattern (l .anchors)) (length (usedAnchors l)) (concat (a ∷ b ∷ c ∷ d ∷ z ∷ f ∷ g ∷ z ∷ t ∷ [])) ≡ concat (a ∷ b ∷ c ∷ d ∷ anchorNames l ∷ f ∷ g ∷ xs l ∷ t ∷ [])
+  anchors-written : (a b c d z f g t : List ℕ) → length a ≡ 24 → length b ≡ 24 → length c ≡ 4 → length d ≡ 24 → length f ≡ 4 → length g ≡ 24 → z ≡ replicate 24 0 → twoParts 76 (map anchorName (l .anchors)) 128 (map xPattern (l .anchors)) (length (usedAnchors l)) (flatten (a ∷ b ∷ c ∷ d ∷ z ∷ f ∷ g ∷ z ∷ t ∷ [])) ≡ flatten (a ∷ b ∷ c ∷ d ∷ anchorNames l ∷ f ∷ g ∷ xs l ∷ t ∷ [])
   anchors-written a b c d z f g t la lb lc ld lf lg q =
       let w = parts-long l s in
       two-filled (l .anchors) (total (map rowCount (usedRows l))) 24 (length (usedAnchors l)) refl (anchors-fit l s) anchorName xPattern (a ∷ b ∷ c ∷ d ∷ z ∷ f ∷ g ∷ z ∷ t ∷ []) 4 7 76 128 (omega arith) (omega arith) q (omega arith) (omega arith) q
 
-  topology-written : (a b z y t : List ℕ) → length a ≡ 24 → length b ≡ 24 → z ≡ replicate 24 0 → y ≡ replicate 4 0 → topologyParts l (concat (a ∷ b ∷ y ∷ z ∷ z ∷ y ∷ z ∷ z ∷ t ∷ [])) ≡ concat (a ∷ b ∷ layerCounts l ∷ rowCounts l ∷ anchorNames l ∷ zs l ∷ ys l ∷ xs l ∷ t ∷ [])
+  topology-written : (a b z y t : List ℕ) → length a ≡ 24 → length b ≡ 24 → z ≡ replicate 24 0 → y ≡ replicate 4 0 → topologyParts l (flatten (a ∷ b ∷ y ∷ z ∷ z ∷ y ∷ z ∷ z ∷ t ∷ [])) ≡ flatten (a ∷ b ∷ layerCounts l ∷ rowCounts l ∷ anchorNames l ∷ zs l ∷ ys l ∷ xs l ∷ t ∷ [])
   unfolding topologyParts
   topology-written a b z y t la lb q r =
       let w = parts-long l s in
@@ -153,7 +154,7 @@ module _ (a b c d e f g h : List ℕ) where
   eight-length : length a ≡ 24 → length b ≡ 24 → length c ≡ 4 → length d ≡ 24 → length e ≡ 24 → length f ≡ 4 → length g ≡ 24 → length h ≡ 24 → length (a ++ b ++ c ++ d ++ e ++ f ++ g ++ h) ≡ 152
   eight-length la lb lc ld le lf lg lh = simp length-append (omega arith)
 
-  pub eight-joined : (t : List ℕ) → concat (a ∷ b ∷ c ∷ d ∷ e ∷ f ∷ g ∷ h ∷ t ∷ []) ≡ a ++ b ++ c ++ d ++ e ++ f ++ g ++ h ++ t
+  pub eight-joined : (t : List ℕ) → flatten (a ∷ b ∷ c ∷ d ∷ e ∷ f ∷ g ∷ h ∷ t ∷ []) ≡ a ++ b ++ c ++ d ++ e ++ f ++ g ++ h ++ t
   eight-joined t = simp (append-assoc, append-nil)
 
 numbers-written : (p : List ℕ) (u d e : ℕ) → length p ≡ 152 → set (set (set (p ++ replicate 4 0) 152 u) 153 d) 154 e ≡ p ++ (u ∷ d ∷ e ∷ 0 ∷ [])
@@ -171,18 +172,18 @@ module _ (l : Layout) (s : Sized l) where
       let w = parts-long l s in
       eight-length (names l) (flags l) (layerCounts l) (rowCounts l) (anchorNames l) (zs l) (ys l) (xs l) (w .names) (w .flags) (w .layerCounts) (w .rowCounts) (w .anchorNames) (w .zs) (w .ys) (w .xs)
 
-  pub key-length : (epoch : ℕ) → length (keyWords l epoch) ≡ 156
-  unfolding keyWords
+  pub key-length : (epoch : ℕ) → length (packedNumbers l epoch) ≡ 156
+  unfolding packedNumbers
   key-length epoch = length-append parts (l .used ∷ l .depth ∷ epoch ∷ 0 ∷ []) ∙ rw parts-length
 
   -- all that is written
-  pub key-written : (epoch : ℕ) (old : List ℕ) → old ≡ replicate 156 0 → set (set (set (topologyParts l (twoParts 0 (map channelName (l .channels)) 24 (map flagNumber (l .channels)) (length (channelsOf l)) old)) 152 (l .used)) 153 (l .depth)) 154 epoch ≡ keyWords l epoch
-  unfolding keyWords
+  pub key-written : (epoch : ℕ) (old : List ℕ) → old ≡ replicate 156 0 → set (set (set (topologyParts l (twoParts 0 (map channelName (l .channels)) 24 (map flagNumber (l .channels)) (length (channelsOf l)) old)) 152 (l .used)) 153 (l .depth)) 154 epoch ≡ packedNumbers l epoch
+  unfolding packedNumbers
   key-written epoch old q =
       let w = parts-long l s in
       let z : List ℕ = replicate 24 0 in
       let y : List ℕ = replicate 4 0 in
-      let blank : old ≡ concat (z ∷ z ∷ y ∷ z ∷ z ∷ y ∷ z ∷ z ∷ y ∷ []) = q in
+      let blank : old ≡ flatten (z ∷ z ∷ y ∷ z ∷ z ∷ y ∷ z ∷ z ∷ y ∷ []) = q in
       ap (λ (p : List ℕ). set (set (set (topologyParts l (twoParts 0 (map channelName (l .channels)) 24 (map flagNumber (l .channels)) (length (channelsOf l)) p)) 152 (l .used)) 153 (l .depth)) 154 epoch) blank
       ∙ ap (λ (p : List ℕ). set (set (set (topologyParts l p) 152 (l .used)) 153 (l .depth)) 154 epoch) (channels-written l s z y z z y z z y refl)
       ∙ ap (λ (p : List ℕ). set (set (set p 152 (l .used)) 153 (l .depth)) 154 epoch)

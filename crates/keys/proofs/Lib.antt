@@ -1,5 +1,13 @@
+pub mod ActiveKeys
+pub mod Asked
+pub mod Back
+pub mod InKey
+pub mod KeyEntries
 pub mod KeyParts
-pub mod KeyWhole
 pub mod KeyPatterns
 pub mod KeyReads
-pub mod KeyPlaces
+pub mod KeyWhole
+pub mod Packed
+pub mod RoomBack
+pub mod SameKeys
+pub mod Unpacked

@@ -6,7 +6,7 @@ use mathlib.Core.List.{List, [], _∷_, _++_, map}
 use native.Mathlib.Omega.{arith}
 use lib.ListN.{length, getD, take, drop, length-map, length-take, length-drop, length-append}
 use lib.Seq.{slice, take-append-seam}
-use Rattle.lists.specs.Lists.{filter}
+use Rattle.lists.specs.Lists.{filtered}
 use Rattle.lists.proofs.Loops.{slice-more, slice-done}
 use Rattle.lists.proofs.Filter.{filter-length}
 use Rattle.lists.proofs.Takes.{take-min}
@@ -15,7 +15,7 @@ use Rattle.layout.specs.declared.Layout.{Layout}
 use Rattle.layout.specs.Channels.{channelsOf, active, channelName, activeNames, activeCount, noChannel}
 
 abbrev named : List Channel → List ℕ
-named cs = map channelName (filter active cs)
+named cs = map channelName (filtered active cs)
 
 abbrev pub namesFrom : Layout → ℕ → ℕ → List ℕ
 namesFrom l i n = named (slice i n (l .channels))
@@ -37,7 +37,7 @@ module _ (l : Layout) (n : ℕ) (k : length (l .channels) ≡ 24) (e : n ≡ min
 
 -- no more are active than there are places
 pub count-most : (l : Layout) → length (l .channels) ≡ 24 → activeCount l ≤ 24
-count-most l k = omega (arith, length-map (filter active (channelsOf l)) channelName, filter-length active (channelsOf l), length-take (l .used) (l .channels))
+count-most l k = omega (arith, length-map (filtered active (channelsOf l)) channelName, filter-length active (channelsOf l), length-take (l .used) (l .channels))
 
 -- an array of 24 with the names written to its front is as long
 pub names-length : (l : Layout) (old : List ℕ) → length (l .channels) ≡ 24 → length old ≡ 24 → length (activeNames l ++ drop (activeCount l) old) ≡ 24

@@ -9,13 +9,15 @@ use lib.Ieee.{Float}
 use lib.ListN.{length, getD, take, length-map, List·getD-map}
 use lib.Seq.{slice, getD-take, length-take-le}
 use borrow.Author.Tests.{leb-true, eqb-false, not-true}
-use Rattle.lists.specs.Lists.{all, elem, allDistinct, total}
+use Rattle.lists.specs.Lists.{allOf, elem, allDistinct, total}
 use Rattle.layout.specs.declared.Layout.{Layout}
 use Rattle.layout.specs.Name.{validName}
 use Rattle.layout.specs.Channels.{channelsOf, channelName, active, activeNames, activeCount}
-use Rattle.layout.specs.Topology.{topologyOf, usedLayers, usedRows, usedAnchors, anchorName, anchorX, rowY, rowCount, layerZ, layerCount, rowStarts, anchorStarts, noRow, noLayer, noAnchor}
-use Rattle.layout.specs.Questions.{firstNo, layoutQuestions, question1, question2, question3, question4, question5, question6, fromTo, ordered, orderedLayer, topologyZ, partsOrdered}
-use Rattle.layout.specs.Accepted.{Accepted}
+use Rattle.layout.specs.Topology.{topologyOf, usedLayers, usedRows, usedAnchors, anchorName, anchorX, rowY, rowCount, layerZ, layerCount}
+use Rattle.layout.specs.Steps.Starts.{rowStarts, anchorStarts, noRow, noLayer, noAnchor}
+use Rattle.layout.specs.Questions.{firstNo, layoutQuestions, question1, question2, question3, question4, question5, question6, fromTo, ordered, orderedLayer, topologyZ}
+use Rattle.layout.specs.Steps.Counts.{partsOrdered}
+use Rattle.layout.specs.Steps.Accepted.{Accepted}
 use Rattle.layout.proofs.TopologyStarts.{start-sum}
 use Rattle.layout.proofs.StartsFrom.{starts-length}
 use Rattle.layout.proofs.ActiveNames.{count-most}
@@ -27,7 +29,7 @@ use Rattle.layout.proofs.QuestionsOrdered.{question5-flat}
 -- ---- a test of each, of one
 
 -- of what a function made of the first n
-pub all-map-at : {A B : Type 0} (p : B → Bool) (f : A → B) (n : ℕ) (l : List A) (i : ℕ) (d : A) → all p (map f (take n l)) ≡ true → i < length (take n l) → i < n → p (f (getD l i d)) ≡ true
+pub all-map-at : {A B : Type 0} (p : B → Bool) (f : A → B) (n : ℕ) (l : List A) (i : ℕ) (d : A) → allOf p (map f (take n l)) ≡ true → i < length (take n l) → i < n → p (f (getD l i d)) ≡ true
 all-map-at p f n l i d e h k =
     rw (← getD-take n l i d k, ← List·getD-map f (take n l) i d) (all-at p (map f (take n l)) i (f d) e (rw (length-map (take n l) f) h))
 
@@ -65,12 +67,12 @@ all-yes l e =
 
 -- ---- what each answer says
 module _ (l : Layout) where
-  pub yes1 : question1 l ≡ true → (fromTo 1 24 (l .used) ≡ true) × (all validName (map channelName (channelsOf l)) ≡ true) × (allDistinct (map channelName (channelsOf l)) ≡ true)
+  pub yes1 : question1 l ≡ true → (fromTo 1 24 (l .used) ≡ true) × (allOf validName (map channelName (channelsOf l)) ≡ true) × (allDistinct (map channelName (channelsOf l)) ≡ true)
   unfolding question1
   yes1 e =
       let names = map channelName (channelsOf l) in
-      let p = both (fromTo 1 24 (l .used) && all validName names) (allDistinct names) e in
-      let q = both (fromTo 1 24 (l .used)) (all validName names) (p .0) in
+      let p = both (fromTo 1 24 (l .used) && allOf validName names) (allDistinct names) e in
+      let q = both (fromTo 1 24 (l .used)) (allOf validName names) (p .0) in
       (q .0, q .1, p .1)
 
   yes3 : question3 l ≡ true → 1 ≤ activeCount l
@@ -79,20 +81,20 @@ module _ (l : Layout) where
       let f = eqb-false (activeCount l) 0 n in
       omega arith
 
-  yes4 : question4 l ≡ true → (all (fromTo 1 6) (map layerCount (usedLayers l)) ≡ true) × (all (leb 1) (map rowCount (usedRows l)) ≡ true) × (total (map rowCount (usedRows l)) ≤ 24)
+  yes4 : question4 l ≡ true → (allOf (fromTo 1 6) (map layerCount (usedLayers l)) ≡ true) × (allOf (leb 1) (map rowCount (usedRows l)) ≡ true) × (total (map rowCount (usedRows l)) ≤ 24)
   unfolding question4
   yes4 e =
       let cs = map layerCount (usedLayers l) in
       let ns = map rowCount (usedRows l) in
-      let p = both (all (fromTo 1 6) cs && all (leb 1) ns) (leb (total ns) 24) e in
-      let q = both (all (fromTo 1 6) cs) (all (leb 1) ns) (p .0) in
+      let p = both (allOf (fromTo 1 6) cs && allOf (leb 1) ns) (leb (total ns) 24) e in
+      let q = both (allOf (fromTo 1 6) cs) (allOf (leb 1) ns) (p .0) in
       (q .0, q .1, leb-true (total ns) 24 (p .1))
 
-  yes5 : question5 l ≡ true → (ordered (map topologyZ (topologyOf l)) ≡ true) × (all orderedLayer (topologyOf l) ≡ true)
+  yes5 : question5 l ≡ true → (ordered (map topologyZ (topologyOf l)) ≡ true) × (allOf orderedLayer (topologyOf l) ≡ true)
   unfolding question5
-  yes5 e = both (ordered (map topologyZ (topologyOf l))) (all orderedLayer (topologyOf l)) e
+  yes5 e = both (ordered (map topologyZ (topologyOf l))) (allOf orderedLayer (topologyOf l)) e
 
-  pub yes6 : question6 l ≡ true → all (λ (n : ℕ). elem n (activeNames l)) (map anchorName (usedAnchors l)) ≡ true
+  pub yes6 : question6 l ≡ true → allOf (λ (n : ℕ). elem n (activeNames l)) (map anchorName (usedAnchors l)) ≡ true
   unfolding question6
   yes6 e = e
 

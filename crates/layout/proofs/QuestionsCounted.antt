@@ -8,10 +8,11 @@ use native.Mathlib.Omega.{arith}
 use lib.Dec.{leb, ltb}
 use lib.ListN.{length, take, length-map, length-take}
 use borrow.Author.Tests.{le-leb, lt-leb, le-ltb, lt-ltb, leb-true, leb-false}
-use Rattle.lists.specs.Lists.{all, total}
+use Rattle.lists.specs.Lists.{allOf, total}
 use Rattle.layout.specs.declared.Layout.{Layout}
 use Rattle.layout.specs.Topology.{usedLayers, usedRows, rowCount, layerCount}
-use Rattle.layout.specs.Questions.{fromTo, countedTo, question4}
+use Rattle.layout.specs.Questions.{fromTo, question4}
+use Rattle.layout.specs.Steps.Counts.{countedTo}
 
 -- both of two tests
 pub both : (a b : Bool) → (a && b) ≡ true → (a ≡ true) × (b ≡ true)
@@ -38,10 +39,10 @@ outside a b n = ap₂ _||_ (below a n) (below n b) ∙ neither (leb a n) (leb n 
     neither false u = refl
 
 -- n counts from 1 to 6 make at most 6 n
-pub total-most : (cs : List ℕ) → all (fromTo 1 6) cs ≡ true → total cs ≤ length cs * 6
+pub total-most : (cs : List ℕ) → allOf (fromTo 1 6) cs ≡ true → total cs ≤ length cs * 6
 total-most [] e = omega arith
 total-most (c ∷ cs) e =
-    let p = both (fromTo 1 6 c) (all (fromTo 1 6) cs) e in
+    let p = both (fromTo 1 6 c) (allOf (fromTo 1 6) cs) e in
     let q = within 1 6 c (p .0) in
     let r = total-most cs (p .1) in
     omega arith
@@ -65,7 +66,7 @@ same-test false true t f = sym (above t (λ h. false≢true (f h)))
 same-test false false t f = refl
 
 -- counts whose sum is at most 24 are at most 24
-each-few : (cs : List ℕ) → total cs ≤ 24 → all (fromTo 1 24) cs ≡ all (leb 1) cs
+each-few : (cs : List ℕ) → total cs ≤ 24 → allOf (fromTo 1 24) cs ≡ allOf (leb 1) cs
 each-few [] h = refl
 each-few (c ∷ cs) h =
     ap₂ _&&_ (ap (λ (b : Bool). leb 1 c && b) (le-leb c 24 (omega arith)) ∙ and-true (leb 1 c)) (each-few cs (omega arith))
@@ -78,15 +79,15 @@ module _ (l : Layout) where
   question4-not h k =
       let cs = map layerCount (usedLayers l) in
       let n = length-map (usedLayers l) layerCount ∙ length-take (l .depth) (l .layers) in
-      let e = large (all (fromTo 1 6) cs) (total cs) (λ a. let m = total-most cs a in omega arith) k in
+      let e = large (allOf (fromTo 1 6) cs) (total cs) (λ a. let m = total-most cs a in omega arith) k in
       rw e
 
   pub question4-is : (rows : ℕ) → rows ≡ countedTo 6 (map layerCount (usedLayers l)) → rows ≤ 24 → leb (countedTo 24 (map rowCount (take rows (l .rows)))) 24 ≡ question4 l
   unfolding question4
   question4-is rows e h =
       let cs = map layerCount (usedLayers l) in
-      let s = small (all (fromTo 1 6) cs) (total cs) (omega arith) in
+      let s = small (allOf (fromTo 1 6) cs) (total cs) (omega arith) in
       let ns = map rowCount (usedRows l) in
       ap (λ (n : ℕ). leb (countedTo 24 (map rowCount (take n (l .rows)))) 24) (e ∙ s .1)
-      ∙ same-test (all (fromTo 1 24) ns) (all (leb 1) ns) (total ns) (each-few ns)
+      ∙ same-test (allOf (fromTo 1 24) ns) (allOf (leb 1) ns) (total ns) (each-few ns)
       ∙ rw (s .0)

@@ -9,7 +9,7 @@ use lib.ListN.{length, getD, take, set, length-map, length-take}
 use Rattle.lists.specs.Lists.{total}
 use Rattle.lists.proofs.Takes.{take-min, map-take}
 use Rattle.lists.proofs.Fill.{Filled, fill-none, fill-more}
-use Rattle.layout.specs.Topology.{startsFrom}
+use Rattle.layout.specs.Steps.Starts.{startsFrom}
 
 pub starts-length : (s : ℕ) (cs : List ℕ) → length (startsFrom s cs) ≡ suc (length cs)
 starts-length s [] = refl

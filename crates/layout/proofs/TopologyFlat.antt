@@ -5,24 +5,25 @@ use mathlib.Core.List.{map}
 use native.Mathlib.Omega.{arith}
 use lib.ListN.{length, getD, take, length-map}
 use lib.Seq.{slice, getD-take, length-take-le}
-use Rattle.lists.specs.Lists.{total, concat}
+use Rattle.lists.specs.Lists.{total, flatten}
 use Rattle.lists.proofs.Takes.{map-take}
 use Rattle.layout.specs.declared.Layout.{Layout}
-use Rattle.layout.specs.Topology.{TopologyRow, TopologyLayer, topologyOf, rowsOf, usedLayers, usedRows, usedAnchors, rowY, rowCount, layerZ, layerCount, startsFrom, rowStarts, anchorStarts, noRow, noLayer}
+use Rattle.layout.specs.Topology.{TopologyRow, TopologyLayer, topologyOf, rowsOf, usedLayers, usedRows, usedAnchors, rowY, rowCount, layerZ, layerCount}
+use Rattle.layout.specs.Steps.Starts.{startsFrom, rowStarts, anchorStarts, noRow, noLayer}
 use Rattle.layout.specs.Questions.{topologyY, topologyZ}
 use Rattle.layout.proofs.TopologyLists.{concat-chunks}
 use Rattle.layout.proofs.TopologyStarts.{topologyAnchors, topologyRows, rows-y, rows-anchors, rows-take, rows-length, layers-z, layers-rows, layers-length, starts-take, rows-at, layers-at}
 
 module _ (l : Layout) where
   -- the rows of all layers, and the anchors of all rows
-  pub topology-rows : concat (map topologyRows (topologyOf l)) ≡ rowsOf (usedRows l) (l .anchors)
+  pub topology-rows : flatten (map topologyRows (topologyOf l)) ≡ rowsOf (usedRows l) (l .anchors)
   topology-rows =
       let cs = map layerCount (usedLayers l) in
       let ts = rowsOf (l .rows) (l .anchors) in
-      ap concat (layers-rows (usedLayers l) ts) ∙ concat-chunks cs ts ∙ rows-take (total cs) (l .rows) (l .anchors)
+      ap flatten (layers-rows (usedLayers l) ts) ∙ concat-chunks cs ts ∙ rows-take (total cs) (l .rows) (l .anchors)
 
-  pub topology-anchors : concat (map topologyAnchors (rowsOf (usedRows l) (l .anchors))) ≡ usedAnchors l
-  topology-anchors = ap concat (rows-anchors (usedRows l) (l .anchors)) ∙ concat-chunks (map rowCount (usedRows l)) (l .anchors)
+  pub topology-anchors : flatten (map topologyAnchors (rowsOf (usedRows l) (l .anchors))) ≡ usedAnchors l
+  topology-anchors = ap flatten (rows-anchors (usedRows l) (l .anchors)) ∙ concat-chunks (map rowCount (usedRows l)) (l .anchors)
 
   pub topology-z : map topologyZ (topologyOf l) ≡ take (l .depth) (map layerZ (l .layers))
   topology-z = layers-z (usedLayers l) (rowsOf (l .rows) (l .anchors)) ∙ map-take layerZ (l .depth) (l .layers)

@@ -7,7 +7,7 @@ use native.Mathlib.Nat.{zero-min, suc-min-suc}
 use native.Mathlib.Omega.{arith}
 use lib.ListN.{length, getD, take, drop}
 use lib.Seq.{drop-nil, take-add}
-use Rattle.lists.specs.Lists.{all, total, chunks, concat}
+use Rattle.lists.specs.Lists.{allOf, total, chunks, flatten}
 use Rattle.lists.proofs.Takes.{map-take}
 
 module _ {A : Type 0} where
@@ -25,22 +25,22 @@ module _ {A : Type 0} where
   take-taken (suc n) (x ∷ xs) = ap (λ (r : List A). x ∷ r) (take-taken n xs)
 
   -- the parts, put one after another
-  pub concat-chunks : (ns : List ℕ) (xs : List A) → concat (chunks ns xs) ≡ take (total ns) xs
+  pub concat-chunks : (ns : List ℕ) (xs : List A) → flatten (chunks ns xs) ≡ take (total ns) xs
   concat-chunks [] xs = refl
   concat-chunks (n ∷ ns) xs = ap (λ (r : List A). take n xs ++ r) (concat-chunks ns (drop n xs)) ∙ sym (take-add n (total ns) xs)
 
   -- ---- tests
-  pub all-append : (p : A → Bool) (xs ys : List A) → all p (xs ++ ys) ≡ (all p xs && all p ys)
+  pub all-append : (p : A → Bool) (xs ys : List A) → allOf p (xs ++ ys) ≡ (allOf p xs && allOf p ys)
   all-append p [] ys = refl
-  all-append p (x ∷ xs) ys = rw (all-append p xs ys) (sym (and-assoc (p x) (all p xs) (all p ys)))
+  all-append p (x ∷ xs) ys = rw (all-append p xs ys) (sym (and-assoc (p x) (allOf p xs) (allOf p ys)))
 
-  pub all-concat : (p : A → Bool) (xss : List (List A)) → all (all p) xss ≡ all p (concat xss)
+  pub all-concat : (p : A → Bool) (xss : List (List A)) → allOf (allOf p) xss ≡ allOf p (flatten xss)
   all-concat p [] = refl
-  all-concat p (xs ∷ xss) = rw (all-append p xs (concat xss), all-concat p xss)
+  all-concat p (xs ∷ xss) = rw (all-append p xs (flatten xss), all-concat p xss)
 
-  pub all-both : (p q : A → Bool) (xs : List A) → all (λ x. p x && q x) xs ≡ (all p xs && all q xs)
+  pub all-both : (p q : A → Bool) (xs : List A) → allOf (λ x. p x && q x) xs ≡ (allOf p xs && allOf q xs)
   all-both p q [] = refl
-  all-both p q (x ∷ xs) = rw (all-both p q xs) (exchange (p x) (q x) (all p xs) (all q xs))
+  all-both p q (x ∷ xs) = rw (all-both p q xs) (exchange (p x) (q x) (allOf p xs) (allOf q xs))
     where
       exchange : (a b c d : Bool) → (a && b && (c && d)) ≡ (a && c && (b && d))
       exchange true true c d = refl
@@ -59,7 +59,7 @@ module _ {A B : Type 0} (f : A → B) where
   map-chunks (n ∷ ns) xs =
       ap₂ (λ (a : List B) (r : List (List B)). a ∷ r) (map-take f n xs) (map-chunks ns (drop n xs) ∙ ap (chunks ns) (map-drop n xs))
 
-  pub all-map : (p : B → Bool) (xs : List A) → all (λ x. p (f x)) xs ≡ all p (map f xs)
+  pub all-map : (p : B → Bool) (xs : List A) → allOf (λ x. p (f x)) xs ≡ allOf p (map f xs)
   all-map p [] = refl
   all-map p (x ∷ xs) = ap (λ (b : Bool). p (f x) && b) (all-map p xs)
 

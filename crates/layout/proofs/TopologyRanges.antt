@@ -7,8 +7,9 @@ use lib.ListN.{length, getD, take}
 use Rattle.lists.specs.Lists.{total}
 use Rattle.lists.proofs.Takes.{map-take}
 use Rattle.layout.specs.declared.Layout.{Layout}
-use Rattle.layout.specs.Topology.{usedLayers, usedRows, usedAnchors, rowCount, layerCount, rowStarts, anchorStarts, noRow, noLayer}
-use Rattle.layout.specs.Accepted.{Accepted}
+use Rattle.layout.specs.Topology.{usedLayers, usedRows, usedAnchors, rowCount, layerCount}
+use Rattle.layout.specs.Steps.Starts.{rowStarts, anchorStarts, noRow, noLayer}
+use Rattle.layout.specs.Steps.Accepted.{Accepted}
 use Rattle.layout.proofs.TopologyLists.{total-within, total-next, take-taken}
 
 -- the sum of the first i counts is at most that of the first n

@@ -12,7 +12,8 @@ use Rattle.lists.proofs.Takes.{take-min, map-take}
 use Rattle.layout.specs.declared.Anchor.{Anchor}
 use Rattle.layout.specs.declared.Row.{Row}
 use Rattle.layout.specs.declared.Layer.{Layer}
-use Rattle.layout.specs.Topology.{TopologyRow, TopologyLayer, rowsOf, layersOf, rowY, rowCount, layerZ, layerCount, startsFrom, noRow, noLayer}
+use Rattle.layout.specs.Topology.{TopologyRow, TopologyLayer, rowsOf, layersOf, rowY, rowCount, layerZ, layerCount}
+use Rattle.layout.specs.Steps.Starts.{startsFrom, noRow, noLayer}
 use Rattle.layout.specs.Questions.{topologyY, topologyZ}
 use Rattle.layout.proofs.TopologyLists.{drop-cap, total-within}
 use Rattle.layout.proofs.StartsFrom.{starts-total}

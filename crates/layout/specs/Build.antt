@@ -5,13 +5,14 @@ use mathlib.Core.List.{List}
 use lib.Dec.{ltb, leb}
 use lib.Ieee.{Float}
 use lib.ListN.{replicate, set, getD, length}
-use Rattle.doubles.specs.Arithmetic.{zero}
+use Rattle.doubles.specs.Arithmetic.{zero64}
 use Rattle.layout.specs.declared.Channel.{Channel}
 use Rattle.layout.specs.declared.Anchor.{Anchor}
 use Rattle.layout.specs.declared.Row.{Row}
 use Rattle.layout.specs.declared.Layer.{Layer}
 use Rattle.layout.specs.declared.Layout.{Layout}
-use Rattle.layout.specs.Topology.{usedRows, usedAnchors, noRow, noLayer}
+use Rattle.layout.specs.Topology.{usedRows, usedAnchors}
+use Rattle.layout.specs.Steps.Starts.{noRow, noLayer}
 
 -- no channels and no layers
 abbrev pub emptyLayout : Layout
@@ -19,10 +20,10 @@ emptyLayout =
     record {
       channels = replicate 24 (record { name = 0; enabled = false; lfe = false });
       used = 0;
-      layers = replicate 4 (record { z = zero; count = 0 });
+      layers = replicate 4 (record { z = zero64; count = 0 });
       depth = 0;
-      rows = replicate 24 (record { y = zero; count = 0 });
-      anchors = replicate 24 (record { name = 0; x = zero });
+      rows = replicate 24 (record { y = zero64; count = 0 });
+      anchors = replicate 24 (record { name = 0; x = zero64 });
     }
 
 -- one more, and the largest count stays

@@ -3,7 +3,7 @@ use Prim.Native.Nat.{ℕ}
 use mathlib.Core.Bool.{Bool, false, _&&_, not}
 use mathlib.Core.List.{List, map}
 use lib.ListN.{take, length}
-use Rattle.lists.specs.Lists.{filter}
+use Rattle.lists.specs.Lists.{filtered}
 use Rattle.layout.specs.declared.Channel.{Channel}
 use Rattle.layout.specs.declared.Layout.{Layout}
 
@@ -20,7 +20,7 @@ channelName c = c .name
 
 -- the names of the active channels, in list order
 abbrev pub activeNames : Layout → List ℕ
-activeNames l = map channelName (filter active (channelsOf l))
+activeNames l = map channelName (filtered active (channelsOf l))
 
 -- n: how many channels are active
 abbrev pub activeCount : Layout → ℕ

@@ -2,6 +2,7 @@ pub mod Name
 pub mod Channels
 pub mod Topology
 pub mod Questions
-pub mod Accepted
+pub mod Room
 pub mod Same
 pub mod Build
+pub mod Steps

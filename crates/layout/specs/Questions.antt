@@ -1,14 +1,13 @@
 -- Questions 1 to 6 of document 01, in its words and order. Definitions only.
 use Prim.Native.Nat.{ℕ}
-use mathlib.Core.Bool.{Bool, true, _&&_, cond}
+use mathlib.Core.Bool.{Bool, _&&_, cond}
 use mathlib.Core.List.{List, [], _∷_, map}
-use lib.Dec.{leb}
+use lib.Dec.{eqb, leb}
 use lib.Ieee.{Float, lt}
-use lib.Seq.{slice}
 use lib.Ieee.Scale.{finite}
-use Rattle.doubles.specs.Arithmetic.{one, minusOne}
-use Rattle.doubles.specs.Range.{between}
-use Rattle.lists.specs.Lists.{all, any, elem, allDistinct, chain, total}
+use Rattle.doubles.specs.Arithmetic.{one64, minusOne64}
+use Rattle.doubles.specs.Range.{isBetween}
+use Rattle.lists.specs.Lists.{allOf, anyOf, elem, allDistinct, chain, total}
 use Rattle.layout.specs.declared.Layout.{Layout}
 use Rattle.layout.specs.Name.{validName}
 use Rattle.layout.specs.Channels.{channelsOf, channelName, active, activeNames}
@@ -23,6 +22,10 @@ abbrev pub firstNo : List Question → ℕ
 firstNo [] = 0
 firstNo (q ∷ qs) = cond (q .yes) (firstNo qs) (q .number)
 
+-- the first of two refusals, 0 being none
+abbrev pub orElse : ℕ → ℕ → ℕ
+orElse p q = cond (eqb p 0) q p
+
 abbrev pub fromTo : ℕ → ℕ → ℕ → Bool
 fromTo a b n = leb a n && leb n b
 
@@ -31,7 +34,7 @@ unfoldable pub question1 : Layout → Bool
 unfolding validName
 question1 l =
     let names = map channelName (channelsOf l) in
-    fromTo 1 24 (l .used) && all validName names && allDistinct names
+    fromTo 1 24 (l .used) && allOf validName names && allDistinct names
 
 -- 2. Are there 1 to 4 layers?
 abbrev pub question2 : Layout → Bool
@@ -39,22 +42,22 @@ question2 l = fromTo 1 4 (l .depth)
 
 -- 3. Is a channel active?
 abbrev pub question3 : Layout → Bool
-question3 l = any active (channelsOf l)
+question3 l = anyOf active (channelsOf l)
 
 -- 4. Has each layer 1 to 6 rows, each row an anchor, and the layout at most 24 anchors?
 unfoldable pub question4 : Layout → Bool
 question4 l =
-    all (fromTo 1 6) (map layerCount (usedLayers l))
-    && all (leb 1) (map rowCount (usedRows l))
+    allOf (fromTo 1 6) (map layerCount (usedLayers l))
+    && allOf (leb 1) (map rowCount (usedRows l))
     && leb (total (map rowCount (usedRows l))) 24
 
 -- finite, and from -1 to 1
 abbrev pub inRoom : Float → Bool
-inRoom x = finite x && between minusOne one x
+inRoom x = finite x && isBetween minusOne64 one64 x
 
 -- each in the room, and strictly ascending
 abbrev pub ordered : List Float → Bool
-ordered xs = all inRoom xs && chain lt xs
+ordered xs = allOf inRoom xs && chain lt xs
 
 abbrev pub orderedRow : TopologyRow → Bool
 orderedRow r = ordered (map anchorX (r .anchors))
@@ -66,15 +69,15 @@ abbrev pub topologyZ : TopologyLayer → Float
 topologyZ l = l .z
 
 abbrev pub orderedLayer : TopologyLayer → Bool
-orderedLayer l = ordered (map topologyY (l .rows)) && all orderedRow (l .rows)
+orderedLayer l = ordered (map topologyY (l .rows)) && allOf orderedRow (l .rows)
 
 -- 5. Is each layer z, row y and anchor x finite, from −1 to 1, and strictly ascending (z over layers, y within a layer, x within a row)?
 unfoldable pub question5 : Layout → Bool
-question5 l = ordered (map topologyZ (topologyOf l)) && all orderedLayer (topologyOf l)
+question5 l = ordered (map topologyZ (topologyOf l)) && allOf orderedLayer (topologyOf l)
 
 -- 6. Does each anchor name an active channel?
 unfoldable pub question6 : Layout → Bool
-question6 l = all (λ (n : ℕ). elem n (activeNames l)) (map anchorName (usedAnchors l))
+question6 l = allOf (λ (n : ℕ). elem n (activeNames l)) (map anchorName (usedAnchors l))
 
 unfoldable pub layoutQuestions : Layout → List Question
 unfolding question1 question4 question5 question6
@@ -86,15 +89,3 @@ layoutQuestions l =
     ∷ record { number = 5; yes = question5 l }
     ∷ record { number = 6; yes = question6 l }
     ∷ []
-
--- ---- what the parts of the code answer
-
--- the sum of counts; 25 where one is not from 1 to k
-abbrev pub countedTo : ℕ → List ℕ → ℕ
-countedTo k cs = cond (all (fromTo 1 k) cs) (total cs) 25
-
--- each part of a list, from one start up to the next, is ordered
-unfoldable pub partsOrdered : List Float → List ℕ → Bool
-partsOrdered xs [] = true
-partsOrdered xs (a ∷ []) = true
-partsOrdered xs (a ∷ b ∷ starts) = ordered (slice a b xs) && partsOrdered xs (b ∷ starts)

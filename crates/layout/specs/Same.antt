@@ -1,35 +1,24 @@
--- Equality of layouts as a key has it: channels and topology by their counts, doubles compared as numbers, so that −0 equals 0. Definitions only.
+-- Equality of rooms as a key has it: doubles compared as numbers, so that −0 equals 0. Definitions only.
 use mathlib.Core.Bool.{Bool, _&&_, Bool·beq}
 use lib.Dec.{eqb}
 use lib.Ieee.{eq}
 use Rattle.lists.specs.Lists.{allSame}
 use Rattle.layout.specs.declared.Channel.{Channel}
 use Rattle.layout.specs.declared.Anchor.{Anchor}
-use Rattle.layout.specs.declared.Row.{Row}
-use Rattle.layout.specs.declared.Layer.{Layer}
-use Rattle.layout.specs.declared.Layout.{Layout}
-use Rattle.layout.specs.Channels.{channelsOf}
-use Rattle.layout.specs.Topology.{usedLayers, usedRows, usedAnchors}
+use Rattle.layout.specs.Topology.{TopologyRow, TopologyLayer}
+use Rattle.layout.specs.Room.{Room}
 
 abbrev pub sameChannel : Channel → Channel → Bool
 sameChannel a b = eqb (a .name) (b .name) && Bool·beq (a .enabled) (b .enabled) && Bool·beq (a .lfe) (b .lfe)
 
-abbrev pub sameLayer : Layer → Layer → Bool
-sameLayer a b = eq (a .z) (b .z) && eqb (a .count) (b .count)
-
-abbrev pub sameRow : Row → Row → Bool
-sameRow a b = eq (a .y) (b .y) && eqb (a .count) (b .count)
-
 abbrev pub sameAnchor : Anchor → Anchor → Bool
 sameAnchor a b = eqb (a .name) (b .name) && eq (a .x) (b .x)
 
-unfoldable pub sameTopology : Layout → Layout → Bool
-sameTopology a b =
-    eqb (a .depth) (b .depth)
-    && allSame sameLayer (usedLayers a) (usedLayers b)
-    && allSame sameRow (usedRows a) (usedRows b)
-    && allSame sameAnchor (usedAnchors a) (usedAnchors b)
+abbrev pub sameRow : TopologyRow → TopologyRow → Bool
+sameRow a b = eq (a .y) (b .y) && allSame sameAnchor (a .anchors) (b .anchors)
 
-unfoldable pub sameLayout : Layout → Layout → Bool
-unfolding sameTopology
-sameLayout a b = eqb (a .used) (b .used) && allSame sameChannel (channelsOf a) (channelsOf b) && sameTopology a b
+abbrev pub sameLayer : TopologyLayer → TopologyLayer → Bool
+sameLayer a b = eq (a .z) (b .z) && allSame sameRow (a .rows) (b .rows)
+
+unfoldable pub sameRoom : Room → Room → Bool
+sameRoom a b = allSame sameChannel (a .channels) (b .channels) && allSame sameLayer (a .layers) (b .layers)

@@ -1,10 +1,9 @@
 -- The topology of a layout as lists of layers, rows and anchors, cut from the flat arrays by the counts. Definitions only.
-use Prim.Native.Nat.{ℕ, _+_, min}
+use Prim.Native.Nat.{ℕ}
 use mathlib.Core.List.{List, [], _∷_, map}
-use lib.Ieee.{Float, nan}
-use lib.ListN.{take, drop, getD}
-use Rattle.lists.specs.Lists.{total, placeOf}
-use Rattle.layout.specs.Channels.{activeNames}
+use lib.Ieee.{Float}
+use lib.ListN.{take, drop}
+use Rattle.lists.specs.Lists.{total}
 use Rattle.layout.specs.declared.Anchor.{Anchor}
 use Rattle.layout.specs.declared.Row.{Row}
 use Rattle.layout.specs.declared.Layer.{Layer}
@@ -60,32 +59,3 @@ usedRows l = take (total (map layerCount (usedLayers l))) (l .rows)
 
 abbrev pub usedAnchors : Layout → List Anchor
 usedAnchors l = take (total (map rowCount (usedRows l))) (l .anchors)
-
--- ---- where each part begins: the sums of the counts before it, none above 24, which is as far as the places reach
-abbrev pub startsFrom : ℕ → List ℕ → List ℕ
-startsFrom s [] = s ∷ []
-startsFrom s (c ∷ cs) = s ∷ startsFrom (min (s + c) 24) cs
-
-abbrev pub rowStarts : Layout → List ℕ
-rowStarts l = startsFrom 0 (map layerCount (l .layers))
-
-abbrev pub anchorStarts : Layout → List ℕ
-anchorStarts l = startsFrom 0 (map rowCount (l .rows))
-
--- where each layer's anchors begin
-abbrev pub layerStarts : Layout → List ℕ
-layerStarts l = map (λ (r : ℕ). getD (anchorStarts l) r 0) (rowStarts l)
-
--- the place, among the active channels, of the channel that an anchor names
-abbrev pub anchorPlace : Layout → Anchor → ℕ
-anchorPlace l a = placeOf (a .name) (activeNames l)
-
--- ---- what stands past the end of a list
-abbrev pub noAnchor : Anchor
-noAnchor = record { name = 0; x = nan }
-
-abbrev pub noRow : Row
-noRow = record { y = nan; count = 0 }
-
-abbrev pub noLayer : Layer
-noLayer = record { z = nan; count = 0 }

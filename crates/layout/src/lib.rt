@@ -35,6 +35,13 @@ pub struct Layer {
     pub count: usize,
 }
 
+// Where an object stands in a room.
+pub struct Centre {
+    pub x: f64,
+    pub y: f64,
+    pub z: f64,
+}
+
 pub struct Layout {
     pub channels: [Channel; 24],
     pub used: usize,

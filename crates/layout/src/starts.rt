@@ -3,7 +3,8 @@
 ghost use mathlib.Core.Path.{_≡_};
 ghost use Prim.Native.Nat.{_+_, min};
 ghost use lib.ListN.{length};
-ghost use Rattle.layout.specs.Topology.{usedRows, usedAnchors, rowStarts, anchorStarts};
+ghost use Rattle.layout.specs.Topology.{usedRows, usedAnchors};
+ghost use Rattle.layout.specs.Steps.Starts.{rowStarts, anchorStarts};
 use crate::Layout;
 
 // s + c, or 24 where that is more.

@@ -122,7 +122,9 @@ fn put(n: u64, end: &[u8]) {
 }
 
 fn ask(l: Layout) {
-    put(questions::first_no(l), b" ");
+    let mut key = [0u64; 156];
+    keys::pack(l, 0, &mut key);
+    put(questions::first_no(&key), b" ");
     put(channels::active_count(l) as u64, b" ");
     put(layout::row_total(l) as u64, b" ");
     put(layout::anchor_total(l) as u64, b"\n");
@@ -141,11 +143,10 @@ fn is_same(a: &[u64; 156], b: &[u64; 156]) -> bool {
 }
 
 fn compare(a: Layout, b: Layout) {
-    let mut places = [0.0f64; 52];
     let mut first = [0u64; 156];
-    keys::pack(a, 0, &mut first, &mut places);
+    keys::pack(a, 0, &mut first);
     let mut second = [0u64; 156];
-    keys::pack(b, 0, &mut second, &mut places);
+    keys::pack(b, 0, &mut second);
     if is_same(&first, &second) {
         io::write_all(STDOUT_FILENO, b"same\n");
     } else {
@@ -154,7 +155,7 @@ fn compare(a: Layout, b: Layout) {
 }
 
 fn place_among(names: &[u64; 24], n: usize, name: u64) -> usize {
-    channels::place_of(names, n, name)
+    channels::index_of(names, n, name)
 }
 
 fn place(l: Layout, name: u64) {

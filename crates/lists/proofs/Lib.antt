@@ -4,3 +4,4 @@ pub mod Filter
 pub mod Chunks
 pub mod Fill
 pub mod Takes
+pub mod Zips

@@ -11,24 +11,19 @@ bit false = 0
 
 module _ {A : Type 0} (p : A → Bool) where
   -- each of a list passes p
-  abbrev pub all : List A → Bool
-  all [] = true
-  all (x ∷ xs) = p x && all xs
+  abbrev pub allOf : List A → Bool
+  allOf [] = true
+  allOf (x ∷ xs) = p x && allOf xs
 
   -- some of a list passes p
-  abbrev pub any : List A → Bool
-  any [] = false
-  any (x ∷ xs) = p x || any xs
-
-  -- how many of a list pass p
-  abbrev pub countIf : List A → ℕ
-  countIf [] = 0
-  countIf (x ∷ xs) = bit (p x) + countIf xs
+  abbrev pub anyOf : List A → Bool
+  anyOf [] = false
+  anyOf (x ∷ xs) = p x || anyOf xs
 
   -- those of a list that pass p, in order
-  abbrev pub filter : List A → List A
-  filter [] = []
-  filter (x ∷ xs) = cond (p x) (x ∷ filter xs) (filter xs)
+  abbrev pub filtered : List A → List A
+  filtered [] = []
+  filtered (x ∷ xs) = cond (p x) (x ∷ filtered xs) (filtered xs)
 
 -- n is one of a list
 abbrev pub elem : ℕ → List ℕ → Bool
@@ -41,9 +36,9 @@ allDistinct [] = true
 allDistinct (x ∷ xs) = not (elem x xs) && allDistinct xs
 
 -- the place of the first n in a list, and the list's length where there is none
-abbrev pub placeOf : ℕ → List ℕ → ℕ
-placeOf n [] = 0
-placeOf n (x ∷ xs) = cond (eqb x n) 0 (1 + placeOf n xs)
+abbrev pub indexOf : ℕ → List ℕ → ℕ
+indexOf n [] = 0
+indexOf n (x ∷ xs) = cond (eqb x n) 0 (1 + indexOf n xs)
 
 module _ {A : Type 0} (r : A → A → Bool) where
   -- two lists agree by r, place by place, and are as long
@@ -73,6 +68,12 @@ chunks [] xs = []
 chunks (n ∷ ns) xs = take n xs ∷ chunks ns (drop n xs)
 
 -- lists put one after another
-abbrev pub concat : {A : Type 0} → List (List A) → List A
-concat [] = []
-concat (xs ∷ xss) = xs ++ concat xss
+abbrev pub flatten : {A : Type 0} → List (List A) → List A
+flatten [] = []
+flatten (xs ∷ xss) = xs ++ flatten xss
+
+-- f of two lists, place by place, as far as both reach
+abbrev pub zipWith : {A B C : Type 0} → (A → B → C) → List A → List B → List C
+zipWith f [] ys = []
+zipWith f (x ∷ xs) [] = []
+zipWith f (x ∷ xs) (y ∷ ys) = f x y ∷ zipWith f xs ys

@@ -1,35 +1,23 @@
 -- A name is active in a key where it is the name of an active channel of the layout.
-use Prim.Native.Nat.{ℕ, zero, suc, _+_, _*_, _<_}
+use Prim.Native.Nat.{ℕ, zero, suc, _+_, _<_}
 use mathlib.Core.Path.{_≡_, refl, sym, ap, _∙_}
-use mathlib.Core.Bool.{Bool, true, false, not, cond, _&&_, _||_, or-true, false≢true}
+use mathlib.Core.Bool.{Bool, true, false, not, cond, _||_, or-true, false≢true}
 use mathlib.Core.List.{List, [], _∷_, map}
 use native.Mathlib.Numerals.{one-add}
 use native.Mathlib.Omega.{arith}
 use borrow.Author.Tests.{eq-eqb, eqb-true, lt-ltb, ltb-true, not-true}
 use lib.Dec.{eqb, ltb}
-use lib.ListN.{length, take, drop, getD, length-map, List·getD-map}
-use lib.Seq.{getD-take, getD-drop}
-use Rattle.lists.specs.Lists.{filter, elem, allDistinct, placeOf, bit}
+use lib.ListN.{length, take, getD, length-map, List·getD-map}
+use Rattle.lists.specs.Lists.{filtered, elem, allDistinct, indexOf}
+use Rattle.lists.proofs.Tests.{place-at}
 use Rattle.layout.specs.declared.Channel.{Channel}
 use Rattle.layout.specs.Channels.{channelName, active, noChannel}
 use Rattle.layout.proofs.QuestionsCounted.{both}
-use Rattle.keys.specs.Keys.{flagNumber}
-use Rattle.questions.specs.KeyNames.{placeIn, activeIn}
-use Rattle.questions.proofs.Marks.{place-at}
-
--- flag number 1 says active
-flag-active : (c : Channel) → eqb (flagNumber c) 1 ≡ active c
-flag-active c = go (c .enabled) (c .lfe)
-  where
-    go : (a b : Bool) → eqb (bit a + 2 * bit b) 1 ≡ (a && not b)
-    go true true = refl
-    go true false = refl
-    go false true = refl
-    go false false = refl
+use Rattle.questions.specs.Steps.KeyNames.{indexIn, isActiveName}
 
 -- the names of active channels
 abbrev named : List Channel → List ℕ
-named cs = map channelName (filter active cs)
+named cs = map channelName (filtered active cs)
 
 -- the name of an active channel is one of them
 active-named : (cs : List Channel) (i : ℕ) → i < length cs → active (getD cs i noChannel) ≡ true → elem (channelName (getD cs i noChannel)) (named cs) ≡ true
@@ -37,7 +25,7 @@ active-named [] i h e = absurd (omega arith)
 active-named (c ∷ cs) zero h e = rw (e, eq-eqb (channelName c) (channelName c) refl)
 active-named (c ∷ cs) (suc i) h e = go (active c) (active-named cs i (omega arith) e)
   where
-    go : (b : Bool) → elem (channelName (getD cs i noChannel)) (named cs) ≡ true → elem (channelName (getD cs i noChannel)) (map channelName (cond b (c ∷ filter active cs) (filter active cs))) ≡ true
+    go : (b : Bool) → elem (channelName (getD cs i noChannel)) (named cs) ≡ true → elem (channelName (getD cs i noChannel)) (map channelName (cond b (c ∷ filtered active cs) (filtered active cs))) ≡ true
     go true f = rw (f, or-true)
     go false f = f
 
@@ -45,7 +33,7 @@ active-named (c ∷ cs) (suc i) h e = go (active c) (active-named cs i (omega ar
 named-first : (x : ℕ) (c : Channel) (cs : List Channel) → elem x (named (c ∷ cs)) ≡ cond (active c) (eqb (channelName c) x || elem x (named cs)) (elem x (named cs))
 named-first x c cs = go (active c)
   where
-    go : (b : Bool) → elem x (map channelName (cond b (c ∷ filter active cs) (filter active cs))) ≡ cond b (eqb (channelName c) x || elem x (named cs)) (elem x (named cs))
+    go : (b : Bool) → elem x (map channelName (cond b (c ∷ filtered active cs) (filtered active cs))) ≡ cond b (eqb (channelName c) x || elem x (named cs)) (elem x (named cs))
     go true = refl
     go false = refl
 
@@ -61,7 +49,7 @@ named-among x (c ∷ cs) e = go (active c) (eqb (channelName c) x) (elem x (map 
 
 -- where all names are different, the channel at a name's place is the active one that has it
 named-place : (x : ℕ) (cs : List Channel) → allDistinct (map channelName cs) ≡ true → elem x (named cs) ≡ true →
-    let p = placeOf x (map channelName cs) in
+    let p = indexOf x (map channelName cs) in
     (p < length cs) × (active (getD cs p noChannel) ≡ true)
 named-place x [] d e = absurd (false≢true e)
 named-place x (c ∷ cs) d e =
@@ -77,21 +65,15 @@ named-place x (c ∷ cs) d e =
     rest false g f = f
 
     go : (b : Bool) → eqb (channelName c) x ≡ b → elem (channelName c) (map channelName cs) ≡ false → cond (active c) (b || elem x (named cs)) (elem x (named cs)) ≡ true
-        → (elem x (named cs) ≡ true → (placeOf x (map channelName cs) < length cs) × (active (getD cs (placeOf x (map channelName cs)) noChannel) ≡ true))
-        → (cond b 0 (1 + placeOf x (map channelName cs)) < suc (length cs)) × (active (getD (c ∷ cs) (cond b 0 (1 + placeOf x (map channelName cs))) noChannel) ≡ true)
+        → (elem x (named cs) ≡ true → (indexOf x (map channelName cs) < length cs) × (active (getD cs (indexOf x (map channelName cs)) noChannel) ≡ true))
+        → (cond b 0 (1 + indexOf x (map channelName cs)) < suc (length cs)) × (active (getD (c ∷ cs) (cond b 0 (1 + indexOf x (map channelName cs))) noChannel) ≡ true)
     go true q n f ih = (omega arith, here (active c) refl (eqb-true (channelName c) x q) n f)
     go false q n f ih = let r = ih (rest (active c) (elem x (named cs)) f) in rw one-add (omega (arith, r .0), r .1)
 
-module _ (cs : List Channel) (key : List ℕ) (n : ℕ) (k : length cs ≡ n) (names : take n key ≡ map channelName cs) (flags : take n (drop 24 key) ≡ map flagNumber cs) where
-  flag-at : (i : ℕ) → i < n → eqb (getD key (24 + i) 0) 1 ≡ active (getD cs i noChannel)
-  flag-at i h =
-      ap (λ (f : ℕ). eqb f 1)
-      (sym (getD-drop 24 key i 0) ∙ sym (getD-take n (drop 24 key) i 0 h) ∙ ap (λ (l : List ℕ). getD l i 0) flags ∙ List·getD-map flagNumber cs i noChannel)
-      ∙ flag-active (getD cs i noChannel)
-
-  pub active-by-key : (w : ℕ) → activeIn key n w ≡ true → elem w (named cs) ≡ true
+module _ (cs : List Channel) (key : List ℕ) (n : ℕ) (k : length cs ≡ n) (names : take n key ≡ map channelName cs) (flag-at : (i : ℕ) → i < n → eqb (getD key (24 + i) 0) 1 ≡ active (getD cs i noChannel)) where
+  active-by-key : (w : ℕ) → isActiveName key n w ≡ true → elem w (named cs) ≡ true
   active-by-key w e =
-      let p = placeIn key n w in
+      let p = indexIn key n w in
       let b = both (ltb p n) (eqb (getD key (24 + p) 0) 1) e in
       let h : p < n = ltb-true p n (b .0) in
       let long : length (take n key) ≡ n = ap length names ∙ length-map cs channelName ∙ k in
@@ -99,10 +81,18 @@ module _ (cs : List Channel) (key : List ℕ) (n : ℕ) (k : length cs ≡ n) (n
       sym (List·getD-map channelName cs p noChannel) ∙ ap (λ (l : List ℕ). getD l p 0) (sym names) ∙ place-at w (take n key) (omega arith) in
       rw name at (active-named cs p (omega arith) (sym (flag-at p h) ∙ b .1))
 
-  pub active-in-key : allDistinct (map channelName cs) ≡ true → (w : ℕ) → elem w (named cs) ≡ true → activeIn key n w ≡ true
+  active-in-key : allDistinct (map channelName cs) ≡ true → (w : ℕ) → elem w (named cs) ≡ true → isActiveName key n w ≡ true
   active-in-key d w e =
-      let p = placeIn key n w in
-      let q : p ≡ placeOf w (map channelName cs) = ap (placeOf w) names in
+      let p = indexIn key n w in
+      let q : p ≡ indexOf w (map channelName cs) = ap (indexOf w) names in
       let r = named-place w cs d e in
       let h : p < n = omega (arith, q, r .0, k) in
       rw (lt-ltb p n h) (flag-at p h ∙ ap (λ (i : ℕ). active (getD cs i noChannel)) q ∙ r .1)
+
+  pub active-is : allDistinct (map channelName cs) ≡ true → (w : ℕ) → isActiveName key n w ≡ elem w (named cs)
+  active-is d w = same (isActiveName key n w) (elem w (named cs)) (active-by-key w) (active-in-key d w)
+    where
+      same : (a b : Bool) → (a ≡ true → b ≡ true) → (b ≡ true → a ≡ true) → a ≡ b
+      same true b f g = sym (f refl)
+      same false true f g = g refl
+      same false false f g = refl

@@ -8,13 +8,13 @@ use native.Mathlib.Omega.{arith}
 use lib.Dec.{ltb}
 use lib.ListN.{length, take, drop, getD, take-append-drop}
 use lib.Seq.{take-suc, take-take, length-take-le}
-use Rattle.lists.specs.Lists.{allDistinct, elem, placeOf}
+use Rattle.lists.specs.Lists.{allDistinct, elem, indexOf}
 use Rattle.lists.proofs.Tests.{elem-place, distinct-snoc, distinct-append-not}
 
 module _ (v : List ℕ) (i : ℕ) (h : i < length v) where
   -- number i stands before place i where its first place is below i
-  pub before : elem (getD v i 0) (take i v) ≡ ltb (placeOf (getD v i 0) (take i v)) i
-  before = elem-place (getD v i 0) (take i v) ∙ ap (ltb (placeOf (getD v i 0) (take i v))) (length-take-le i v (omega arith))
+  pub before : elem (getD v i 0) (take i v) ≡ ltb (indexOf (getD v i 0) (take i v)) i
+  before = elem-place (getD v i 0) (take i v) ∙ ap (ltb (indexOf (getD v i 0) (take i v))) (length-take-le i v (omega arith))
 
   -- the first i are all different, and one more where it does not stand among them
   pub front : allDistinct (take i v) ≡ true → allDistinct (take (i + 1) v) ≡ not (elem (getD v i 0) (take i v))

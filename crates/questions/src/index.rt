@@ -2,10 +2,13 @@
 // without a search. The names of the usual layouts have different remainders; where two have one, the
 // search is made.
 ghost use mathlib.Core.Path.{_≡_};
+ghost use mathlib.Core.Bool.{true};
 ghost use Prim.Native.Nat.{_%_, _≤_};
 ghost use lib.ListN.{length};
-ghost use Rattle.questions.specs.KeyNames.{placeIn, IndexOf};
-use channels::place_of;
+ghost use Rattle.questions.specs.Steps.KeyNames.{goodNames, indexIn, IndexOf};
+use crate::numbers::all_distinct;
+use channels::index_of;
+use channels::is_name;
 
 // The entry of a name.
 fn entry(name: u64) -> usize
@@ -20,24 +23,37 @@ fn wide(x: u8) -> usize
     x as usize
 }
 
-// Writes the place of each of the first n names of a key to its entry, the last one first, so that
-// the first of those with one entry stays.
-pub(crate) fn index_names(key: &[u64], n: usize, index: &mut [u8; 167])
+// Whether the first n numbers of a key are names, no two equal. The place of each is written to its
+// entry, the last one first, so that the first of those with one entry stays. Names with entries of
+// their own differ; where two have one, they are compared.
+pub(crate) fn channels_named(key: &[u64], n: usize, index: &mut [u8; 167]) -> bool
     requires { ⌜ (n ≤ length (now key)) × (n ≤ 24) ⌝ }
-    ensures { λ _. ⌜ IndexOf (now (key .entry)) n (now (index .exit)) ⌝ }
+    ensures { λ r. ⌜ r ≡ goodNames (now (key .entry)) n ⌝ }
+    ensures index { λ r. ⌜ (r ≡ true → IndexOf (now (key .entry)) n (now (index .exit))) ⌝ }
 {
     let entries: &mut [u8] = index;
+    let mut clear = true;
     let mut i = n;
     while 0 < i {
         i -= 1;
-        entries[entry(key[i])] = i as u8;
+        let w = key[i];
+        if !is_name(w) {
+            return false;
+        }
+        let e = entry(w);
+        clear = clear & (entries[e] == 24);
+        entries[e] = i as u8;
     }
+    if clear {
+        return true;
+    }
+    all_distinct(key, n)
 }
 
 // The place of the first w among the first n numbers of a key; n where there is none.
-pub(crate) fn place_by(index: &[u8; 167], key: &[u64], n: usize, w: u64) -> usize
+pub(crate) fn index_by(index: &[u8; 167], key: &[u64], n: usize, w: u64) -> usize
     requires { ⌜ (n ≤ length (now key)) × IndexOf (now key) n (now index) ⌝ }
-    ensures { λ r. ⌜ r ≡ placeIn (now (key .entry)) n w ⌝ }
+    ensures { λ r. ⌜ r ≡ indexIn (now (key .entry)) n w ⌝ }
 {
     let p = wide(index[entry(w)]);
     if p < n {
@@ -45,5 +61,5 @@ pub(crate) fn place_by(index: &[u8; 167], key: &[u64], n: usize, w: u64) -> usiz
             return p;
         }
     }
-    place_of(key, n, w)
+    index_of(key, n, w)
 }

@@ -1,11 +1,14 @@
-// Tests of lists of numbers.
+// Tests of lists of numbers, and of doubles by their patterns.
 ghost use mathlib.Core.Path.{_≡_};
+ghost use mathlib.Core.List.{map};
 ghost use Prim.Native.Nat.{_≤_};
 ghost use lib.ListN.{length, take};
 ghost use lib.Seq.{slice};
 ghost use Rattle.lists.specs.Lists.{allDistinct};
-ghost use Rattle.layout.specs.Questions.{inRoom, ordered};
-use channels::place_of;
+ghost use Rattle.layout.specs.Questions.{ordered};
+ghost use Rattle.keys.specs.InKey.{double};
+use channels::index_of;
+use doubles::of_bits;
 
 // Whether the first n numbers of v are all different.
 pub(crate) fn all_distinct(v: &[u64], n: usize) -> bool
@@ -14,7 +17,7 @@ pub(crate) fn all_distinct(v: &[u64], n: usize) -> bool
 {
     let mut i = 0usize;
     while i < n {
-        if place_of(v, i, v[i]) < i {
+        if index_of(v, i, v[i]) < i {
             return false;
         }
         i += 1;
@@ -22,29 +25,23 @@ pub(crate) fn all_distinct(v: &[u64], n: usize) -> bool
     true
 }
 
-// Whether v, from a up to b, is finite, from -1 to 1 and strictly ascending.
-pub(crate) fn is_ordered(v: &[f64], a: usize, b: usize) -> bool
+// Whether the doubles of v, from a up to b, are finite, from -1 to 1 and strictly ascending. Of those
+// that ascend, the first is the least and the last the greatest.
+pub(crate) fn is_ordered(v: &[u64], a: usize, b: usize) -> bool
     requires { ⌜ b ≤ length (now v) ⌝ }
-    ensures { λ r. ⌜ r ≡ ordered (slice a b (now (v .entry))) ⌝ }
+    ensures { λ r. ⌜ r ≡ ordered (slice a b (map double (now (v .entry)))) ⌝ }
 {
     if b <= a {
         return true;
     }
-    let mut last = v[a];
-    let mut good = in_room(last);
+    let mut last = of_bits(v[a]);
+    let mut good = -1.0 <= last;
     let mut i = a + 1;
     while i < b {
-        let next = v[i];
-        good = good & in_room(next) & (last < next);
+        let next = of_bits(v[i]);
+        good = good & (last < next);
         last = next;
         i += 1;
     }
-    good
-}
-
-// Whether x is finite and from -1 to 1.
-fn in_room(x: f64) -> bool
-    ensures { λ r. ⌜ r ≡ inRoom x ⌝ }
-{
-    (-1.0 <= x) & (x <= 1.0)
+    good & (last <= 1.0)
 }

@@ -1,10 +1,10 @@
 -- Region states and their flags, by document 01. Definitions only.
-use Prim.Native.Nat.{ℕ, _+_, _*_}
+use Prim.Native.Nat.{ℕ, _+_}
 use mathlib.Core.Bool.{Bool, true, false, cond, _&&_}
 use mathlib.Core.List.{List, [], _∷_, _++_, map}
 use lib.Dec.{eqb}
 use lib.ListN.{take, getD}
-use Rattle.lists.specs.Lists.{bit, any, allSame}
+use Rattle.lists.specs.Lists.{bit, anyOf, allSame}
 use Rattle.region.specs.declared.RegionHorizontalState.{RegionHorizontalState}
 use Rattle.region.specs.declared.RegionHorizontalState.the-variants.{NoConstraints, BackExcluded, SideExcluded, CentreAndBack, ScreenOnly, SurroundOnly}
 use Rattle.region.specs.declared.RegionTopBottomState.{RegionTopBottomState}
@@ -13,25 +13,19 @@ use Rattle.region.specs.declared.RegionSemanticState.{RegionSemanticStat
 use Rattle.region.specs.declared.Zones.{Zones}
 use Rattle.region.specs.declared.Zones.the-variants.{State, Refused}
 
-abbrev T : Bool
-T = true
-
-abbrev F : Bool
-F = false
-
 -- the first five flags of each horizontal state
 abbrev pub fiveOf : RegionHorizontalState → List Bool
-fiveOf NoConstraints = T ∷ T ∷ T ∷ T ∷ T ∷ []
-fiveOf BackExcluded = T ∷ T ∷ T ∷ F ∷ T ∷ []
-fiveOf SideExcluded = T ∷ F ∷ T ∷ T ∷ T ∷ []
-fiveOf CentreAndBack = F ∷ F ∷ F ∷ F ∷ T ∷ []
-fiveOf ScreenOnly = T ∷ F ∷ F ∷ F ∷ F ∷ []
-fiveOf SurroundOnly = F ∷ F ∷ T ∷ F ∷ F ∷ []
+fiveOf NoConstraints = true ∷ true ∷ true ∷ true ∷ true ∷ []
+fiveOf BackExcluded = true ∷ true ∷ true ∷ false ∷ true ∷ []
+fiveOf SideExcluded = true ∷ false ∷ true ∷ true ∷ true ∷ []
+fiveOf CentreAndBack = false ∷ false ∷ false ∷ false ∷ true ∷ []
+fiveOf ScreenOnly = true ∷ false ∷ false ∷ false ∷ false ∷ []
+fiveOf SurroundOnly = false ∷ false ∷ true ∷ false ∷ false ∷ []
 
 -- the sixth: top Include or Exclude
 abbrev pub isInclude : RegionTopBottomState → Bool
-isInclude Include = T
-isInclude Exclude = F
+isInclude Include = true
+isInclude Exclude = false
 
 abbrev pub topOf : Bool → RegionTopBottomState
 topOf true = Include
@@ -67,34 +61,19 @@ patterns = map (λ h. flagsOf (record { horizontal = h; top = Include })) horizo
 
 -- 8. Are the flags an admitted pattern?
 abbrev pub question8 : List Bool → Bool
-question8 flags = any (allSame sameFlag flags) patterns
+question8 flags = anyOf (allSame sameFlag flags) patterns
 
 -- the default state: NoConstraints, Include
 abbrev pub defaultState : RegionSemanticState
 defaultState = record { horizontal = NoConstraints; top = Include }
 
 abbrev pub isNoConstraints : RegionHorizontalState → Bool
-isNoConstraints NoConstraints = T
-isNoConstraints BackExcluded = F
-isNoConstraints SideExcluded = F
-isNoConstraints CentreAndBack = F
-isNoConstraints ScreenOnly = F
-isNoConstraints SurroundOnly = F
+isNoConstraints NoConstraints = true
+isNoConstraints BackExcluded = false
+isNoConstraints SideExcluded = false
+isNoConstraints CentreAndBack = false
+isNoConstraints ScreenOnly = false
+isNoConstraints SurroundOnly = false
 
 abbrev pub isDefault : RegionSemanticState → Bool
 isDefault s = isNoConstraints (s .horizontal) && isInclude (s .top)
-
--- ---- the same table with five flags as a number, the first one highest
-
-abbrev pub packed : Bool → Bool → Bool → Bool → Bool → ℕ
-packed a b c d e = 16 * bit a + 8 * bit b + 4 * bit c + 2 * bit d + bit e
-
-abbrev pub packedList : List Bool → ℕ
-packedList f = packed (getD f 0 false) (getD f 1 false) (getD f 2 false) (getD f 3 false) (getD f 4 false)
-
-abbrev pub packedAmong : List RegionHorizontalState → ℕ → RegionTopBottomState → Zones
-packedAmong [] n t = Refused 8
-packedAmong (h ∷ hs) n t = cond (eqb n (packedList (fiveOf h))) (State (record { horizontal = h; top = t })) (packedAmong hs n t)
-
-abbrev pub packedZones : ℕ → RegionTopBottomState → Zones
-packedZones n t = packedAmong horizontals n t

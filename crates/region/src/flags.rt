@@ -1,7 +1,8 @@
 // Zone flags and region states.
 ghost use mathlib.Core.Path.{_≡_};
 ghost use mathlib.Core.Bool.{cond};
-ghost use Rattle.region.specs.Zones.{zonesOf, refusalOf, question8, flagsOf, topOf, isInclude, isDefault, packed, packedZones};
+ghost use Rattle.region.specs.Zones.{zonesOf, refusalOf, question8, flagsOf, topOf, isInclude, isDefault};
+ghost use Rattle.region.specs.Steps.{packed, packedZones};
 use crate::RegionHorizontalState;
 use crate::RegionSemanticState;
 use crate::RegionTopBottomState;

@@ -9,7 +9,7 @@
 // speaker of that name, without five-x and with it: 0 dropped, 1 kept, 2 no class. 912 selects by a
 // state, the number of the horizontal state doubled and 1 more where top is Include: it writes the
 // refusal, and where that is 0 how many layers, rows and anchors are selected and a hash over them.
-use classes::Bed;
+use classes::BedMatch;
 use layout::Anchor;
 use layout::Channel;
 use layout::Layout;
@@ -127,11 +127,11 @@ fn tell_flags(v: u64) {
     }
 }
 
-fn bed_number(b: Bed) -> u64 {
+fn bed_number(b: BedMatch) -> u64 {
     match b {
-        Bed::Dropped => 0,
-        Bed::Kept => 1,
-        Bed::Unclassed => 2,
+        BedMatch::Dropped => 0,
+        BedMatch::Kept => 1,
+        BedMatch::Unclassed => 2,
     }
 }
 
@@ -162,46 +162,44 @@ fn word(h: u64, w: u64) -> u64 {
     mixed(mixed(h, w), w / 0x1_0000_0000)
 }
 
-fn hash_layers(l: Layout) -> u64 {
+// The hash of n pairs: what stands in a key from a on, and beside it what stands from b on.
+fn hash_parts(key: &[u64; 156], a: usize, b: usize, n: usize) -> u64 {
     let mut h = 0u64;
     let mut i = 0usize;
-    while i < 4 {
-        let y = l.layers[i];
-        h = word(word(h, doubles::bits_of(y.z)), y.count as u64);
+    while i < n {
+        h = word(word(h, entry(key, a, i)), entry(key, b, i));
         i += 1;
     }
     h
 }
 
-fn hash_rows(l: Layout) -> u64 {
-    let mut h = 0u64;
-    let mut i = 0usize;
-    while i < 24 {
-        let r = l.rows[i];
-        h = word(word(h, doubles::bits_of(r.y)), r.count as u64);
-        i += 1;
+// The i-th number of a key from a on; 0 past its end.
+fn entry(key: &[u64; 156], a: usize, i: usize) -> u64 {
+    if i < 156 {
+        if a < 156 - i { key[a + i] } else { 0 }
+    } else {
+        0
     }
-    h
 }
 
-fn hash_anchors(l: Layout) -> u64 {
-    let mut h = 0u64;
+// The sum of n counts of a key from a on; 24 where it is more.
+fn count(key: &[u64; 156], a: usize, n: usize) -> u64 {
+    let mut s = 0usize;
     let mut i = 0usize;
-    while i < 24 {
-        let a = l.anchors[i];
-        h = word(word(h, a.name), doubles::bits_of(a.x));
+    while i < n {
+        s = layout::next_start(s, entry(key, a, i) as usize);
         i += 1;
     }
-    h
+    s as u64
 }
 
-fn tell_layout(l: Layout) {
-    put(l.depth as u64, b" ");
-    put(layout::row_total(l) as u64, b" ");
-    put(layout::anchor_total(l) as u64, b" ");
-    put(hash_layers(l), b" ");
-    put(hash_rows(l), b" ");
-    put(hash_anchors(l), b"\n");
+fn tell_room(key: &[u64; 156]) {
+    put(key[153], b" ");
+    put(count(key, 48, 4), b" ");
+    put(count(key, 52, 24), b" ");
+    put(hash_parts(key, 100, 48, 4), b" ");
+    put(hash_parts(key, 104, 52, 24), b" ");
+    put(hash_parts(key, 76, 128, 24), b"\n");
 }
 
 fn state_of(v: u64) -> RegionSemanticState {
@@ -217,15 +215,37 @@ fn state_of(v: u64) -> RegionSemanticState {
     }
 }
 
+// The heights of a layout as they are, over those of its key, which has -0 as 0.
+fn put_heights(l: Layout, key: &mut [u64; 156]) {
+    let mut i = 0usize;
+    while i < 4 {
+        key[100 + i] = doubles::bits_of(l.layers[i].z);
+        i += 1;
+    }
+}
+
+// So the y of its rows and the x of its anchors.
+fn put_places(l: Layout, key: &mut [u64; 156]) {
+    let mut i = 0usize;
+    while i < 24 {
+        key[104 + i] = doubles::bits_of(l.rows[i].y);
+        key[128 + i] = doubles::bits_of(l.anchors[i].x);
+        i += 1;
+    }
+}
+
 fn tell_selected(l: Layout, v: u64) {
     let s = state_of(v);
-    let r = selection::derive_selected_layout(l, s);
-    let chosen = r.chosen;
-    if r.refusal == 0 {
+    let mut key = [0u64; 156];
+    keys::pack(l, 0, &mut key);
+    put_heights(l, &mut key);
+    put_places(l, &mut key);
+    let refusal = selection::derive_selected_layout(&mut key, s);
+    if refusal == 0 {
         put(0, b" ");
-        tell_layout(chosen);
+        tell_room(&key);
     } else {
-        put(r.refusal, b"\n");
+        put(refusal, b"\n");
     }
 }
 

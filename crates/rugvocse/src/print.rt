@@ -188,13 +188,13 @@ fn epochs(words: &[u64], count: usize, oldest: usize) {
 fn keys(s: Selector) {
     let count = s.count;
     let oldest = s.oldest;
-    let words = s.words;
+    let keys = s.keys;
     bytes(b"keys ");
     number(count as u64);
     bytes(b" ");
     number(oldest as u64);
     if (count <= 8) & (oldest <= 7) {
-        epochs(&words, count, oldest);
+        epochs(&keys, count, oldest);
     }
 }
 

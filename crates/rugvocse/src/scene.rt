@@ -4,10 +4,10 @@ ghost use mathlib.Core.Path.{_≡_};
 ghost use lib.ListN.{length, take};
 use crate::print;
 use extent::Extent;
-use gains::Centre;
+use layout::Centre;
 use layout::Layout;
-use selector::Replied;
 use selector::Selector;
+use selector::SelectorReply;
 
 // What later calls bring. `rowed`: the last layer has a row.
 pub struct Scene {
@@ -89,7 +89,7 @@ fn within(n: usize, v: &[f64]) -> usize
 }
 
 // The call, over what is lent.
-fn called(s: Scene, store: &mut [f64], given: &[f64], space: &mut [f64]) -> Replied {
+fn called(s: Scene, store: &mut [f64], given: &[f64], space: &mut [f64]) -> SelectorReply {
     let k = s.selector;
     let l = s.layout;
     let e = s.extent;
@@ -99,19 +99,19 @@ fn called(s: Scene, store: &mut [f64], given: &[f64], space: &mut [f64]) -> Repl
 }
 
 // The call over as many slots as the scene lends.
-fn with_slots(s: Scene, store: &mut [f64], given: &[f64], space: &mut [f64]) -> Replied {
+fn with_slots(s: Scene, store: &mut [f64], given: &[f64], space: &mut [f64]) -> SelectorReply {
     let n = within(s.slots, space);
     called(s, store, given, &mut space[..n])
 }
 
 // The call with as many point gains as the scene brings.
-fn with_points(s: Scene, store: &mut [f64], given: &[f64], space: &mut [f64]) -> Replied {
+fn with_points(s: Scene, store: &mut [f64], given: &[f64], space: &mut [f64]) -> SelectorReply {
     let n = within(s.count, given);
     with_slots(s, store, &given[..n], space)
 }
 
 // The call over as much of the store as the scene lends.
-fn with_store(s: Scene, store: &mut [f64], given: &[f64], space: &mut [f64]) -> Replied {
+fn with_store(s: Scene, store: &mut [f64], given: &[f64], space: &mut [f64]) -> SelectorReply {
     let n = within(s.size, store);
     with_points(s, &mut store[..n], given, space)
 }

@@ -3,8 +3,7 @@ mod bed;
 mod rule;
 
 pub use bed::is_classed;
-pub use bed::is_free;
-pub use bed::is_ground;
+pub use bed::is_no_constraints;
 pub use rule::Rule;
 pub use rule::rule_of;
-pub use rule::stays;
+pub use rule::stays_by;

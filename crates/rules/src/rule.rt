@@ -3,10 +3,11 @@ ghost use mathlib.Core.Path.{_≡_};
 ghost use mathlib.Core.Bool.{_&&_, cond};
 ghost use lib.Dec.{eqb};
 ghost use lib.Ieee.{lt};
-ghost use Rattle.doubles.specs.Arithmetic.{zero};
+ghost use Rattle.doubles.specs.Arithmetic.{zero64};
 ghost use Rattle.classes.specs.Classes.{bedOf};
-ghost use Rattle.rules.specs.Rules.{isKept, ruleOf, passes};
-use classes::Bed;
+ghost use Rattle.rules.specs.Rules.{isKept};
+ghost use Rattle.rules.specs.Steps.{ruleOf, staysBy};
+use classes::BedMatch;
 use classes::matches_bed_state;
 use region::RegionHorizontalState;
 use region::RegionSemanticState;
@@ -21,37 +22,39 @@ pub struct Rule {
     five: bool,
 }
 
-fn is_upper(wide: bool, depth: usize, i: usize, z: f64) -> bool
-    ensures { λ r. ⌜ r ≡ cond wide (lt zero z) (eqb depth 2 && eqb i 1) ⌝ }
+// Whether layer i of depth, at height z, is upper.
+fn is_upper(is_22_2: bool, depth: usize, i: usize, z: f64) -> bool
+    ensures { λ r. ⌜ r ≡ cond is_22_2 (lt zero64 z) (eqb depth 2 && eqb i 1) ⌝ }
 {
-    if wide {
+    if is_22_2 {
         0.0 < z
     } else {
         (depth == 2) & (i == 1)
     }
 }
 
-fn keeps_all(wide: bool, z: f64) -> bool
-    ensures { λ r. ⌜ r ≡ (wide && lt z zero) ⌝ }
+// Whether a layer at height z keeps all.
+fn keeps_all(is_22_2: bool, z: f64) -> bool
+    ensures { λ r. ⌜ r ≡ (is_22_2 && lt z zero64) ⌝ }
 {
-    wide & (z < 0.0)
+    is_22_2 & (z < 0.0)
 }
 
 // The rule of layer i, at height z.
 pub fn rule_of(
-    wide: bool,
+    is_22_2: bool,
     five: bool,
     state: RegionSemanticState,
     depth: usize,
     i: usize,
     z: f64,
 ) -> Rule
-    ensures { λ r. ⌜ r ≡ ruleOf wide five state depth i z ⌝ }
+    ensures { λ r. ⌜ r ≡ ruleOf is_22_2 five state depth i z ⌝ }
 {
-    let upper = is_upper(wide, depth, i, z);
+    let upper = is_upper(is_22_2, depth, i, z);
     let top = state.top;
     let include = is_include(top);
-    let whole = keeps_all(wide, z);
+    let whole = keeps_all(is_22_2, z);
     let horizontal = state.horizontal;
     Rule {
         upper: upper,
@@ -68,15 +71,15 @@ fn is_kept(h: RegionHorizontalState, name: u64, five: bool) -> bool
 {
     let b = matches_bed_state(h, name, five);
     match b {
-        Bed::Kept => true,
-        Bed::Dropped => false,
-        Bed::Unclassed => false,
+        BedMatch::Kept => true,
+        BedMatch::Dropped => false,
+        BedMatch::Unclassed => false,
     }
 }
 
-// Whether the anchor of a name stays.
-pub fn stays(rule: Rule, name: u64) -> bool
-    ensures { λ r. ⌜ r ≡ passes rule name ⌝ }
+// Whether the anchor of a name stays by a rule.
+pub fn stays_by(rule: Rule, name: u64) -> bool
+    ensures { λ r. ⌜ r ≡ staysBy rule name ⌝ }
 {
     let h = rule.horizontal;
     if rule.upper {

@@ -8,14 +8,16 @@ use native.Mathlib.Omega.{arith}
 use lib.Ieee.{eq}
 use lib.ListN.{length, getD, take, drop, set, replicate, length-set, length-map, length-append, length-take, length-drop, take-append-drop, drop-of-length-le}
 use lib.Seq.{slice, drop-set-lt, drop-cons, drop-drop, take-all, take-append-seam, drop-append-add}
-use Rattle.doubles.specs.Arithmetic.{zero as zero64}
-use Rattle.lists.specs.Lists.{all}
+use Rattle.doubles.specs.Arithmetic.{zero64}
+use Rattle.lists.specs.Lists.{allOf}
 use Rattle.lists.proofs.Loops.{slice-more}
 use Rattle.lists.proofs.Takes.{map-take}
 use Rattle.lists.proofs.Filter.{store}
 use Rattle.layout.specs.declared.Anchor.{Anchor}
 use Rattle.layout.specs.declared.Layout.{Layout}
-use Rattle.layout.specs.Topology.{TopologyLayer, topologyOf, rowsOf, anchorName, layerCount, rowStarts, layerStarts, noLayer}
+use Rattle.layout.specs.Room.{roomOf}
+use Rattle.layout.specs.Topology.{TopologyLayer, topologyOf, rowsOf, anchorName}
+use Rattle.layout.specs.Steps.Starts.{rowStarts, layerStarts, noLayer}
 use Rattle.layout.proofs.TopologyLists.{map-drop, all-concat, all-map}
 use Rattle.layout.proofs.TopologyStarts.{topologyAnchors}
 use Rattle.layout.proofs.TopologyFlat.{topology-length, topology-layer}
@@ -23,17 +25,17 @@ use Rattle.layout.proofs.Sizes.{Sized}
 use Rattle.region.specs.declared.RegionSemanticState.{RegionSemanticState}
 use Rattle.rules.specs.declared.rule.Rule.{Rule}
 use Rattle.region.specs.Zones.{isNoConstraints}
-use Rattle.classes.specs.Classes.{bedOf, fiveX, is222}
-use Rattle.rules.specs.Rules.{isClassed, ruleOf, passes}
-use Rattle.selection.specs.Selection.{stays, rowFlags, layerFlags, keptFlags, classedLayer, question10}
-use Rattle.selection.proofs.Counts.{slice-past, starts-long as starts-long-4}
+use Rattle.selection.specs.Selection.{fiveX, is222, stays, question10, classedLayer}
+use Rattle.selection.specs.Steps.{flaggedFrom, hasClass, rowFlags, layerFlags, keptFlags}
+use Rattle.rules.specs.Steps.{ruleOf, staysBy}
+use Rattle.kept_anchors.proofs.Counts.{slice-past}
 use Rattle.selection.proofs.Tested.{rows-flags}
 use Rattle.selection.proofs.LayerAnchors.{layer-start-rises, layer-start-most, layer-start-first, layer-anchors}
 
 -- ---- the loop over one layer: `old` becomes its first `at` flags, those of the layer, and what lay behind
 module _ (p : ℕ → Bool) (names : List ℕ) (at end : ℕ) (old : List Bool) where
-  abbrev pub flagged : List Bool
-  flagged = take at old ++ (map p (slice at end names) ++ drop end old)
+  abbrev flagged : List Bool
+  flagged = flaggedFrom p names at end old
 
   pub record Flagging (out : List Bool) (a : ℕ) : Type 0 where
     pub begun : at ≤ a
@@ -79,19 +81,6 @@ layers-more t (y ∷ ys) i (suc k) j d e h =
     ap (λ (r : List Bool). rowFlags (t i y) (y .rows) ++ r) (layers-more t ys (suc i) k j d (omega arith) (omega arith))
     ∙ sym (append-assoc (rowFlags (t i y) (y .rows)) (layerFlags t (suc i) (take k ys)) (rowFlags (t j (getD ys k d)) (getD ys k d .rows)))
 
--- ---- what the code reads: the layers' starts and the anchors' names
-module _ (l : Layout) (z : Sized l) (starts names : List ℕ) (es : starts ≡ layerStarts l) (en : names ≡ map anchorName (l .anchors)) where
-  pub starts-long : length starts ≡ 5
-  starts-long = ap length es ∙ length-map (rowStarts l) _ ∙ starts-long-4 layerCount (l .layers) (rowStarts l) 4 refl (z .layers)
-
-  pub names-long : length names ≡ 24
-  names-long = ap length en ∙ length-map (l .anchors) anchorName ∙ z .anchors
-
-  pub bounded : (i : ℕ) → i < 4 → (getD starts i 0 ≤ getD starts (i + 1) 0) × (getD starts (i + 1) 0 ≤ 24) × (getD starts (i + 1) 0 ≤ length names)
-  bounded i h =
-      rw (es, add-one)
-      (layer-start-rises l z i h, layer-start-most l z (suc i) h, omega (arith, names-long, layer-start-most l z (suc i) h))
-
 -- ---- the loop over the layers of a layout
 module _ (l : Layout) (z : Sized l) (few : l .depth ≤ 4) where
   abbrev layerAt : ℕ → TopologyLayer
@@ -106,7 +95,7 @@ module _ (l : Layout) (z : Sized l) (few : l .depth ≤ 4) where
   module _ (s : RegionSemanticState) where
     -- the flags of the first i layers
     abbrev before : ℕ → List Bool
-    before i = layerFlags (stays s l) 0 (take i (topologyOf l))
+    before i = layerFlags (stays s (roomOf l)) 0 (take i (topologyOf l))
 
     pub record Layered (out : List Bool) (i : ℕ) : Type 0 where
       pub reached : i ≤ l .depth
@@ -118,24 +107,25 @@ module _ (l : Layout) (z : Sized l) (few : l .depth ≤ 4) where
 
     module _ (out : List Bool) (i : ℕ) (w : Layered out i) where
       -- what one turn writes
-      before-more : i < l .depth → before (suc i) ≡ before i ++ map (stays s l i (layerAt i)) (slice (getD (layerStarts l) i 0) (getD (layerStarts l) (suc i) 0) (l .anchors))
+      before-more : i < l .depth → before (suc i) ≡ before i ++ map (stays s (roomOf l) i (layerAt i)) (slice (getD (layerStarts l) i 0) (getD (layerStarts l) (suc i) 0) (l .anchors))
       before-more h =
-          layers-more (stays s l) (topologyOf l) 0 i i (layerAt i) (omega arith) (omega (arith, many))
-          ∙ ap (λ (y : TopologyLayer). before i ++ rowFlags (stays s l i y) (y .rows)) (here i h)
-          ∙ ap (λ (t : List Bool). before i ++ t) (rows-flags (stays s l i (layerAt i)) (layerAt i .rows) ∙ ap (map (stays s l i (layerAt i))) (layer-anchors l z i (omega arith)))
+          layers-more (stays s (roomOf l)) (topologyOf l) 0 i i (layerAt i) (omega arith) (omega (arith, many))
+          ∙ ap (λ (y : TopologyLayer). before i ++ rowFlags (stays s (roomOf l) i y) (y .rows)) (here i h)
+          ∙ ap (λ (t : List Bool). before i ++ t) (rows-flags (stays s (roomOf l) i (layerAt i)) (layerAt i .rows) ∙ ap (map (stays s (roomOf l) i (layerAt i))) (layer-anchors l z i (omega arith)))
 
-      pub layered-more : (r : List Bool) (starts names : List ℕ) (rule : Rule) (wide five : Bool) → i < l .depth →
-          r ≡ take (getD starts i 0) out ++ (map (passes rule) (slice (getD starts i 0) (getD starts (i + 1) 0) names) ++ drop (getD starts (i + 1) 0) out) →
-          starts ≡ layerStarts l → names ≡ map anchorName (l .anchors) → rule ≡ ruleOf wide five s (l .depth) i (getD (l .layers) i noLayer .z) → wide ≡ is222 l → five ≡ fiveX l → Layered r (i + 1)
-      layered-more r starts names rule wide five h e es en er ew ef =
+      pub layered-more : (r : List Bool) (rule : Rule) (flc five : Bool) → i < l .depth →
+          r ≡ flaggedFrom (staysBy rule) (map anchorName (l .anchors)) (getD (layerStarts l) i 0) (getD (layerStarts l) (i + 1) 0) out →
+          rule ≡ ruleOf flc five s (l .depth) i (getD (l .layers) i noLayer .z) → flc ≡ is222 (roomOf l) → five ≡ fiveX (roomOf l) → Layered r (i + 1)
+      layered-more r rule flc five h e er ew ef =
+          let er′ : rule ≡ ruleOf flc five s (length (topologyOf l)) i (getD (l .layers) i noLayer .z) = er ∙ ap (λ (n : ℕ). ruleOf flc five s n i (getD (l .layers) i noLayer .z)) (sym many) in
           let a = getD (layerStarts l) i 0 in
           let b = getD (layerStarts l) (suc i) 0 in
-          let p = stays s l i (layerAt i) in
+          let p = stays s (roomOf l) i (layerAt i) in
           let blank = replicate 24 false in
           let rise = layer-start-rises l z i (omega arith) in
           let most = layer-start-most l z (suc i) (omega arith) in
-          let m : map (passes (ruleOf (is222 l) (fiveX l) s (l .depth) i (getD (l .layers) i noLayer .z))) (slice a b (map anchorName (l .anchors))) ≡ map p (slice a b (l .anchors)) =
-          ap (map (passes (ruleOf (is222 l) (fiveX l) s (l .depth) i (getD (l .layers) i noLayer .z)))) (sym (map-slice anchorName a b (l .anchors))) ∙ map-map _ anchorName (slice a b (l .anchors)) in
+          let m : map (staysBy (ruleOf (is222 (roomOf l)) (fiveX (roomOf l)) s (length (topologyOf l)) i (getD (l .layers) i noLayer .z))) (slice a b (map anchorName (l .anchors))) ≡ map p (slice a b (l .anchors)) =
+          ap (map (staysBy (ruleOf (is222 (roomOf l)) (fiveX (roomOf l)) s (length (topologyOf l)) i (getD (l .layers) i noLayer .z)))) (sym (map-slice anchorName a b (l .anchors))) ∙ map-map _ anchorName (slice a b (l .anchors)) in
           let n : length (map p (slice a b (l .anchors))) ≡ b - a =
           length-map (slice a b (l .anchors)) p ∙ length-drop a (take b (l .anchors)) ∙ ap (λ (k : ℕ). k - a) (length-take b (l .anchors)) ∙ omega (arith, z .anchors) in
           let f = before-more h in
@@ -145,45 +135,42 @@ module _ (l : Layout) (z : Sized l) (few : l .depth ≤ 4) where
           let d : drop b out ≡ drop b blank =
           rw (w .whole, k) (drop-append-add (before i) (drop (length (before i)) blank) (b - a) ∙ drop-drop (b - a) (length (before i)) blank) in
           let q : r ≡ before (suc i) ++ drop (length (before (suc i))) blank =
-          rw (es, en, er, ew, ef, add-one) at e
+          rw (er′, ew, ef, add-one) at e
           ∙ ap₂ (λ (x : List Bool) (y : List Bool). x ++ y) t (ap₂ (λ (x : List Bool) (y : List Bool). x ++ y) m d)
           ∙ sym (append-assoc (before i) (map p (slice a b (l .anchors))) (drop b blank))
           ∙ ap₂ (λ (x : List Bool) (k : ℕ). x ++ drop k blank) (sym f) (sym sum) in
           rw add-one (record { reached = h; sum = sum; whole = q })
 
-      pub layered-done : l .depth ≤ i → out ≡ keptFlags s l
+      pub layered-done : l .depth ≤ i → out ≡ keptFlags s (roomOf l)
       layered-done h =
           let e : take i (topologyOf l) ≡ topologyOf l = take-all i (topologyOf l) (omega (arith, many)) in
-          w .whole ∙ ap (λ (t : List TopologyLayer). layerFlags (stays s l) 0 t ++ drop (length (layerFlags (stays s l) 0 t)) (replicate 24 false)) e
+          w .whole ∙ ap (λ (t : List TopologyLayer). layerFlags (stays s (roomOf l)) 0 t ++ drop (length (layerFlags (stays s (roomOf l)) 0 t)) (replicate 24 false)) e
 
     -- ---- question 10
-    abbrev classed : Bool → ℕ → Bool
-    classed five n = isClassed (bedOf (s .horizontal) n five)
-
     layer-test : (five : Bool) (i : ℕ) → i < l .depth →
-        classedLayer five s (layerAt i) ≡ (not (eq (layerAt i .z) zero64) || all (classed five) (slice (getD (layerStarts l) i 0) (getD (layerStarts l) (suc i) 0) (map anchorName (l .anchors))))
+        classedLayer five s (layerAt i) ≡ (not (eq (layerAt i .z) zero64) || allOf (hasClass (s .horizontal) five) (slice (getD (layerStarts l) i 0) (getD (layerStarts l) (suc i) 0) (map anchorName (l .anchors))))
     layer-test five i h =
-        let p : Anchor → Bool = λ a. classed five (anchorName a) in
+        let p : Anchor → Bool = λ a. hasClass (s .horizontal) five (anchorName a) in
         ap (λ (b : Bool). not (eq (layerAt i .z) zero64) || b)
-        (all-map topologyAnchors (all p) (layerAt i .rows)
+        (all-map topologyAnchors (allOf p) (layerAt i .rows)
         ∙ all-concat p (map topologyAnchors (layerAt i .rows))
-        ∙ ap (all p) (layer-anchors l z i (omega arith))
-        ∙ all-map anchorName (classed five) (slice (getD (layerStarts l) i 0) (getD (layerStarts l) (suc i) 0) (l .anchors))
-        ∙ ap (all (classed five)) (map-slice anchorName (getD (layerStarts l) i 0) (getD (layerStarts l) (suc i) 0) (l .anchors)))
+        ∙ ap (allOf p) (layer-anchors l z i (omega arith))
+        ∙ all-map anchorName (hasClass (s .horizontal) five) (slice (getD (layerStarts l) i 0) (getD (layerStarts l) (suc i) 0) (l .anchors))
+        ∙ ap (allOf (hasClass (s .horizontal) five)) (map-slice anchorName (getD (layerStarts l) i 0) (getD (layerStarts l) (suc i) 0) (l .anchors)))
 
     -- whether the layers that are left pass
     abbrev pub classedFrom : Bool → ℕ → Bool
-    classedFrom five i = all (classedLayer five s) (drop i (topologyOf l))
+    classedFrom five i = allOf (classedLayer five s) (drop i (topologyOf l))
 
-    pub classed-more : (starts names : List ℕ) (five r : Bool) (i : ℕ) → i < l .depth → starts ≡ layerStarts l → names ≡ map anchorName (l .anchors) →
-        r ≡ (not (eq (getD (l .layers) i noLayer .z) zero64) || all (classed five) (slice (getD starts i 0) (getD starts (i + 1) 0) names)) →
+    pub classed-more : (five r : Bool) (i : ℕ) → i < l .depth →
+        r ≡ (not (eq (getD (l .layers) i noLayer .z) zero64) || allOf (hasClass (s .horizontal) five) (slice (getD (layerStarts l) i 0) (getD (layerStarts l) (i + 1) 0) (map anchorName (l .anchors)))) →
         classedFrom five i ≡ (r && classedFrom five (i + 1))
-    classed-more starts names five r i h es en er =
-        let q = rw (es, en, add-one) at er in
+    classed-more five r i h er =
+        let q = rw add-one at er in
         rw (add-one, drop-cons (topologyOf l) i (layerAt i) (omega (arith, many)), here i h, layer-test five i h, ← q)
 
     pub classed-done : (five : Bool) (i : ℕ) → l .depth ≤ i → classedFrom five i ≡ true
-    classed-done five i h = ap (all (classedLayer five s)) (drop-of-length-le (topologyOf l) {i = i} (omega (arith, many)))
+    classed-done five i h = ap (allOf (classedLayer five s)) (drop-of-length-le (topologyOf l) {i = i} (omega (arith, many)))
 
-    pub classed-all : (free five b : Bool) → free ≡ isNoConstraints (s .horizontal) → free ≡ false → five ≡ fiveX l → classedFrom five 0 ≡ b → b ≡ question10 s l
+    pub classed-all : (free five b : Bool) → free ≡ isNoConstraints (s .horizontal) → free ≡ false → five ≡ fiveX (roomOf l) → classedFrom five 0 ≡ b → b ≡ question10 s (roomOf l)
     classed-all free five b e f g q = sym q ∙ rw (sym e ∙ f, g)

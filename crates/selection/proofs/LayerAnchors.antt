@@ -5,13 +5,14 @@ use mathlib.Core.List.{List, [], _∷_, map}
 use native.Mathlib.Omega.{arith}
 use lib.ListN.{length, getD, take, drop, length-map, length-take, List·getD-map}
 use lib.Seq.{slice, drop-drop, take-take}
-use Rattle.lists.specs.Lists.{total, chunks, concat}
+use Rattle.lists.specs.Lists.{total, chunks, flatten}
 use Rattle.lists.proofs.Chunks.{slice-take}
 use Rattle.lists.proofs.Takes.{take-min, map-take}
 use Rattle.layout.specs.declared.Anchor.{Anchor}
 use Rattle.layout.specs.declared.Row.{Row}
 use Rattle.layout.specs.declared.Layout.{Layout}
-use Rattle.layout.specs.Topology.{rowsOf, rowCount, layerCount, startsFrom, rowStarts, anchorStarts, layerStarts}
+use Rattle.layout.specs.Topology.{rowsOf, rowCount, layerCount}
+use Rattle.layout.specs.Steps.Starts.{startsFrom, rowStarts, anchorStarts, layerStarts}
 use Rattle.layout.proofs.TopologyLists.{drop-cap, concat-chunks, map-drop, total-within}
 use Rattle.layout.proofs.TopologyStarts.{topologyAnchors, rows-anchors, starts-first}
 use Rattle.layout.proofs.Sizes.{Sized}
@@ -30,7 +31,7 @@ module _ {A : Type 0} where
   chunks-first (suc b) [] xs = refl
   chunks-first (suc b) (n ∷ ns) xs = ap {B = List (List A)} (λ t. take n xs ∷ t) (chunks-first b ns (drop n xs))
 
-  concat-later : (a : ℕ) (ns : List ℕ) (xs : List A) → concat (drop a (chunks ns xs)) ≡ slice (total (take a ns)) (total ns) xs
+  concat-later : (a : ℕ) (ns : List ℕ) (xs : List A) → flatten (drop a (chunks ns xs)) ≡ slice (total (take a ns)) (total ns) xs
   concat-later zero ns xs = concat-chunks ns xs
   concat-later (suc a) [] xs = refl
   concat-later (suc a) (n ∷ ns) xs =
@@ -44,10 +45,10 @@ module _ {A : Type 0} where
       drop-cap a 24 (take b xs) k ∙ ap (drop (min a 24)) (sym (take-min b 24 xs (omega arith)))
 
 -- the anchors of the rows from a up to b
-rows-part : (a b : ℕ) (rs : List Row) (xs : List Anchor) → a ≤ b → concat (map topologyAnchors (slice a b (rowsOf rs xs))) ≡ slice (total (take a (map rowCount rs))) (total (take b (map rowCount rs))) xs
+rows-part : (a b : ℕ) (rs : List Row) (xs : List Anchor) → a ≤ b → flatten (map topologyAnchors (slice a b (rowsOf rs xs))) ≡ slice (total (take a (map rowCount rs))) (total (take b (map rowCount rs))) xs
 rows-part a b rs xs h =
     let ns = map rowCount rs in
-    ap concat
+    ap flatten
     (map-drop topologyAnchors a (take b (rowsOf rs xs))
     ∙ ap (drop a) (map-take topologyAnchors b (rowsOf rs xs) ∙ ap (take b) (rows-anchors rs xs) ∙ chunks-first b ns xs))
     ∙ concat-later a (take b ns) xs
@@ -84,7 +85,7 @@ module _ (l : Layout) (z : Sized l) where
   layer-start-first = layer-start 0 (omega arith) ∙ omega (arith, row-start 0 (omega arith), ap (λ (n : ℕ). total (take n (map rowCount (l .rows)))) (row-start 0 (omega arith)))
 
   pub layer-anchors : (i : ℕ) → i < 4 →
-      concat (map topologyAnchors (slice (getD (rowStarts l) i 0) (getD (rowStarts l) (suc i) 0) (rowsOf (l .rows) (l .anchors)))) ≡ slice (getD (layerStarts l) i 0) (getD (layerStarts l) (suc i) 0) (l .anchors)
+      flatten (map topologyAnchors (slice (getD (rowStarts l) i 0) (getD (rowStarts l) (suc i) 0) (rowsOf (l .rows) (l .anchors)))) ≡ slice (getD (layerStarts l) i 0) (getD (layerStarts l) (suc i) 0) (l .anchors)
   layer-anchors i h =
       let a = getD (rowStarts l) i 0 in
       let b = getD (rowStarts l) (suc i) 0 in

@@ -1,82 +1,73 @@
--- The layout that a region state selects, by document 01. Definitions only.
+-- The room that a region state selects, by document 01. Definitions only.
 use Prim.Native.Nat.{ℕ, suc}
-use mathlib.Core.Bool.{Bool, false, _&&_, _||_, not, cond}
-use mathlib.Core.List.{List, [], _∷_, _++_, map}
-use lib.Dec.{eqb, leb, ltb}
+use mathlib.Core.Bool.{Bool, true, false, _&&_, _||_, not, cond}
+use mathlib.Core.List.{List, [], _∷_, map}
+use lib.Dec.{eqb, leb}
 use lib.Ieee.{lt, eq}
-use lib.ListN.{length, drop, replicate}
-use Rattle.doubles.specs.Arithmetic.{zero}
-use Rattle.lists.specs.Lists.{all, filter}
+use lib.ListN.{length}
+use Rattle.doubles.specs.Arithmetic.{zero64}
+use Rattle.lists.specs.Lists.{allOf, anyOf, filtered}
 use Rattle.layout.specs.declared.Anchor.{Anchor}
-use Rattle.layout.specs.declared.Layout.{Layout}
-use Rattle.layout.specs.Topology.{TopologyRow, TopologyLayer, topologyOf}
-use Rattle.layout.specs.Questions.{firstNo}
+use Rattle.layout.specs.Channels.{channelName}
+use Rattle.layout.specs.Topology.{TopologyRow, TopologyLayer}
 use Rattle.region.specs.declared.RegionSemanticState.{RegionSemanticState}
-use Rattle.selection.specs.declared.Selected.{Selected}
 use Rattle.rules.specs.Rules.{isKept, isClassed}
 use Rattle.region.specs.Zones.{isInclude, isNoConstraints, isDefault}
-use Rattle.classes.specs.Classes.{bedOf, fiveX, is222}
-use Rattle.selection.specs.Select.{hasAnchors, hasRows, keptLayout}
+use Rattle.classes.specs.Classes.{bedOf, outsideFive, isFLc}
+use Rattle.layout.specs.Room.{Room}
+
+-- Five-x holds if no channel, active or not, is Lb, Rb, BL, BR, Lw or Rw
+abbrev pub fiveX : Room → Bool
+fiveX r = not (anyOf outsideFive (map channelName (r .channels)))
+
+-- whether a channel is FLc
+abbrev pub is222 : Room → Bool
+is222 r = anyOf isFLc (map channelName (r .channels))
 
 -- If a channel is FLc, layers with z > 0 are upper; otherwise only the second of exactly two layers is upper, whatever its z
-abbrev pub upper : Layout → ℕ → TopologyLayer → Bool
-upper l i y = cond (is222 l) (lt zero (y .z)) (eqb (l .depth) 2 && eqb i 1)
+abbrev pub upper : Room → ℕ → TopologyLayer → Bool
+upper r i y = cond (is222 r) (lt zero64 (y .z)) (eqb (length (r .layers)) 2 && eqb i 1)
 
 -- and with FLc those with z < 0 keep all
-abbrev pub keepsAll : Layout → TopologyLayer → Bool
-keepsAll l y = is222 l && lt (y .z) zero
+abbrev pub keepsAll : Room → TopologyLayer → Bool
+keepsAll r y = is222 r && lt (y .z) zero64
 
 -- Upper layers go whole under Exclude and else stay whole. Elsewhere an anchor without a class is dropped
-abbrev pub stays : RegionSemanticState → Layout → ℕ → TopologyLayer → Anchor → Bool
-stays s l i y a = cond (upper l i y) (isInclude (s .top)) (keepsAll l y || isKept (bedOf (s .horizontal) (a .name) (fiveX l)))
+abbrev pub stays : RegionSemanticState → Room → ℕ → TopologyLayer → Anchor → Bool
+stays s r i y a = cond (upper r i y) (isInclude (s .top)) (keepsAll r y || isKept (bedOf (s .horizontal) (a .name) (fiveX r)))
 
 -- the anchors that pass, layer by layer; empty rows and layers go
+abbrev pub isEmpty : {A : Type 0} → List A → Bool
+isEmpty [] = true
+isEmpty (x ∷ xs) = false
+
+abbrev pub hasAnchors : TopologyRow → Bool
+hasAnchors w = not (isEmpty (w .anchors))
+
+abbrev pub hasRows : TopologyLayer → Bool
+hasRows y = not (isEmpty (y .rows))
+
 abbrev pub passing : (Anchor → Bool) → TopologyRow → TopologyRow
-passing t r = record { y = r .y; anchors = filter t (r .anchors) }
+passing t w = record { y = w .y; anchors = filtered t (w .anchors) }
 
 abbrev pub passingFrom : (ℕ → TopologyLayer → Anchor → Bool) → ℕ → List TopologyLayer → List TopologyLayer
 passingFrom t i [] = []
-passingFrom t i (y ∷ ys) = record { z = y .z; rows = filter hasAnchors (map (passing (t i y)) (y .rows)) } ∷ passingFrom t (suc i) ys
+passingFrom t i (y ∷ ys) = record { z = y .z; rows = filtered hasAnchors (map (passing (t i y)) (y .rows)) } ∷ passingFrom t (suc i) ys
 
--- the default state selects the layout itself
-abbrev pub selectedTopology : RegionSemanticState → Layout → List TopologyLayer
-selectedTopology s l = cond (isDefault s) (topologyOf l) (filter hasRows (passingFrom (stays s l) 0 (topologyOf l)))
+-- the default state selects the room itself
+abbrev pub selectedRoom : RegionSemanticState → Room → Room
+selectedRoom s r = cond (isDefault s) r (record { channels = r .channels; layers = filtered hasRows (passingFrom (stays s r) 0 (r .layers)) })
 
 -- 9. Does the selection leave an anchor?
-abbrev pub question9 : RegionSemanticState → Layout → Bool
-question9 s l = leb 1 (length (selectedTopology s l))
+abbrev pub question9 : RegionSemanticState → Room → Bool
+question9 s r = leb 1 (length (selectedRoom s r .layers))
 
 -- 10. If the horizontal state is not NoConstraints, has each anchor of the lent layout's layers with z = 0 a class, dropped or not?
 abbrev pub classedRow : Bool → RegionSemanticState → TopologyRow → Bool
-classedRow five s r = all (λ (a : Anchor). isClassed (bedOf (s .horizontal) (a .name) five)) (r .anchors)
+classedRow five s w = allOf (λ (a : Anchor). isClassed (bedOf (s .horizontal) (a .name) five)) (w .anchors)
 
 abbrev pub classedLayer : Bool → RegionSemanticState → TopologyLayer → Bool
-classedLayer five s y = not (eq (y .z) zero) || all (classedRow five s) (y .rows)
+classedLayer five s y = not (eq (y .z) zero64) || allOf (classedRow five s) (y .rows)
 
-abbrev pub question10 : RegionSemanticState → Layout → Bool
-question10 s l = isNoConstraints (s .horizontal) || all (classedLayer (fiveX l) s) (topologyOf l)
-
--- ---- the same as a layout: one flag for each of the 24 anchors
-abbrev pub rowFlags : (Anchor → Bool) → List TopologyRow → List Bool
-rowFlags t [] = []
-rowFlags t (r ∷ rs) = map t (r .anchors) ++ rowFlags t rs
-
-abbrev pub layerFlags : (ℕ → TopologyLayer → Anchor → Bool) → ℕ → List TopologyLayer → List Bool
-layerFlags t i [] = []
-layerFlags t i (y ∷ ys) = rowFlags (t i y) (y .rows) ++ layerFlags t (suc i) ys
-
-abbrev pub keptFlags : RegionSemanticState → Layout → List Bool
-keptFlags s l = let f = layerFlags (stays s l) 0 (topologyOf l) in f ++ drop (length f) (replicate 24 false)
-
-abbrev pub selectedLayout : RegionSemanticState → Layout → Layout
-selectedLayout s l = cond (isDefault s) l (keptLayout (keptFlags s l) l)
-
--- ---- what `derive_selected_layout` answers: questions 9 and 10 in that order; more than four layers are question 2's
-abbrev pub selectionRefusal : RegionSemanticState → Layout → ℕ
-selectionRefusal s l = cond (ltb 4 (l .depth)) 2 (firstNo (record { number = 9; yes = question9 s l } ∷ record { number = 10; yes = question10 s l } ∷ []))
-
--- refusal 0 with the selected layout, or the number of the refusal with the layout that was lent
-abbrev pub selectionOf : RegionSemanticState → Layout → Selected
-selectionOf s l =
-    let n = selectionRefusal s l in
-    record { refusal = n; chosen = cond (eqb n 0) (selectedLayout s l) l }
+abbrev pub question10 : RegionSemanticState → Room → Bool
+question10 s r = isNoConstraints (s .horizontal) || allOf (classedLayer (fiveX r) s) (r .layers)

@@ -1,32 +1,38 @@
--- The call for gains: what it brings, finds and leaves. Definitions only.
-use Prim.Native.Nat.{ℕ, _+_, _%_}
-use mathlib.Core.Bool.{Bool, _&&_, cond}
-use mathlib.Core.List.{List, [], _∷_, _++_}
-use lib.Dec.{eqb, leb, ltb}
-use lib.Ieee.{Float}
-use lib.Ieee.Scale.{finite}
-use lib.ListN.{length}
-use Rattle.lists.specs.Lists.{all}
+-- The call for gains: what it brings, finds and leaves (document 01, 'What a call takes and answers' and 'The selector'). Definitions only.
+use Prim.Native.Nat.{ℕ}
+use mathlib.Core.Path.{_≡_}
+use mathlib.Core.Bool.{Bool, cond}
+use mathlib.Core.List.{List, [], _∷_, _++_, map}
+use lib.Dec.{T, eqb, ltb}
+use lib.Ieee.{Float, binary64, fits}
+use lib.ListN.{length, replicate}
+use Rattle.lists.specs.Lists.{allOf}
 use Rattle.layout.specs.declared.Layout.{Layout}
-use Rattle.layout.specs.Channels.{activeCount}
+use Rattle.layout.specs.Topology.{layerZ, rowY, anchorX}
 use Rattle.layout.specs.Questions.{Question, firstNo, layoutQuestions}
+use Rattle.layout.specs.Room.{Room, roomOf, activeIn}
 use Rattle.extent.specs.declared.Extent.{Extent}
-use Rattle.gains.specs.declared.Centre.{Centre}
 use Rattle.extent.specs.Extent.{extentQuestions, meanOf, meanRadius}
-use Rattle.field.specs.Place.{filled}
-use Rattle.gains.specs.Gains.{projected}
 use Rattle.region.specs.declared.RegionSemanticState.{RegionSemanticState}
 use Rattle.region.specs.declared.Zones.{Zones}
 use Rattle.region.specs.declared.Zones.the-variants.{State}
 use Rattle.region.specs.declared.Zones.the-variants as zones
+use Rattle.region.specs.Zones.{zonesOf, question8, defaultState}
+use Rattle.selection.specs.Selection.{question9, question10, selectedRoom}
+use Rattle.keys.specs.Keys.{keyNumbers}
+use Rattle.field.specs.Place.{filled}
+use Rattle.layout.specs.declared.Centre.{Centre}
+use Rattle.gains.specs.Gains.{projected}
+use Rattle.cache.specs.declared.Ring.{Ring}
+use Rattle.cache.specs.declared.Slot.{Slot}
+use Rattle.cache.specs.declared.Slot.the-variants.{At, Missing}
+use Rattle.cache.specs.declared.Word.{Word}
+use Rattle.cache.specs.declared.Word.the-variants.{Unused, Kept, Built}
+use Rattle.cache.specs.Questions.{lentQuestions, stateQuestions}
+use Rattle.cache.specs.Places.{slotOf, newPlace, ringAfter, withKey}
 use Rattle.selector.specs.declared.Outcome.{Outcome}
 use Rattle.selector.specs.declared.Outcome.the-variants.{Refused, Gains}
-use Rattle.region.specs.Zones.{zonesOf, question8, defaultState}
-use Rattle.selection.specs.Selection.{question9, question10, selectedLayout}
-use Rattle.keys.specs.Keys.{keyWords, withKey, findFrom, upTo}
-use Rattle.slots.specs.declared.Word.{Word}
-use Rattle.slots.specs.declared.Word.the-variants.{Unused, Kept, Built}
-use Rattle.slots.specs.Serve.{isGain, question14}
+use Rattle.selector.specs.declared.Selector.{Selector}
 
 -- what a call brings, all but selector and store
 pub record Call : Type 0 where
@@ -38,12 +44,30 @@ pub record Call : Type 0 where
   pub points : List Float
   pub gains : List Float
 
--- what it finds and leaves: the numbers of eight keys, how many are held, the oldest place, the store
+-- what it finds and leaves: the numbers of eight keys, how many are held and the oldest place, the store
 pub record Found : Type 0 where
-  pub words : List ℕ
-  pub count : ℕ
-  pub oldest : ℕ
+  pub keys : List ℕ
+  pub ring : Ring
   pub store : List Float
+
+-- by a selector and a store
+abbrev pub foundIn : Selector → List Float → Found
+foundIn s store = record { keys = s .keys; ring = record { count = s .count; oldest = s .oldest }; store = store }
+
+-- A fresh selector is the empty one.
+abbrev pub freshSelector : Selector
+freshSelector = record { keys = replicate 1248 0; count = 0; oldest = 0 }
+
+-- what the types of a call's arguments say: how long the arrays are, and that coordinates and centre are doubles
+pub record Typed (c : Call) : Type 0 where
+  pub channels : length (c .layout .channels) ≡ 24
+  pub layers : length (c .layout .layers) ≡ 4
+  pub rows : length (c .layout .rows) ≡ 24
+  pub anchors : length (c .layout .anchors) ≡ 24
+  pub zs : T (allOf (fits binary64) (map layerZ (c .layout .layers)))
+  pub ys : T (allOf (fits binary64) (map rowY (c .layout .rows)))
+  pub xs : T (allOf (fits binary64) (map anchorX (c .layout .anchors)))
+  pub centre : T (fits binary64 (c .centre .x)) × T (fits binary64 (c .centre .y)) × T (fits binary64 (c .centre .z))
 
 -- ---- questions
 
@@ -51,50 +75,45 @@ abbrev pub stateIn : Zones → RegionSemanticState
 stateIn (State s) = s
 stateIn (zones.Refused n) = defaultState
 
-abbrev pub stateOf : Call → RegionSemanticState
-stateOf c = stateIn (zonesOf (c .flags))
+-- the state that the flags say
+abbrev pub stateBy : List Bool → RegionSemanticState
+stateBy flags = stateIn (zonesOf flags)
 
--- n
+-- 8 to 10: about the flags, and the room by their state
+unfoldable pub zoneQuestions : List Bool → Room → List Question
+zoneQuestions flags r =
+    record { number = 8; yes = question8 flags }
+    ∷ record { number = 9; yes = question9 (stateBy flags) r }
+    ∷ record { number = 10; yes = question10 (stateBy flags) r }
+    ∷ []
+
+-- the room of the lent layout, and n
+abbrev pub lentRoom : Call → Room
+lentRoom c = roomOf (c .layout)
+
 abbrev pub answered : Call → ℕ
-answered c = activeCount (c .layout)
-
--- 11. Is the centre finite?
-abbrev pub question11 : Call → Bool
-question11 c = finite (c .centre .x) && finite (c .centre .y) && finite (c .centre .z)
-
--- 12. Are there exactly n point gains, each finite and from 0 to 5/4? isGain of slots/specs/Serve.antt
-abbrev pub question12 : Call → Bool
-question12 c = eqb (length (c .points)) (answered c) && all isGain (c .points)
-
--- 13. Has the gains slice at least n places and the field store at least 285,312?
-abbrev pub question13 : Call → ℕ → Bool
-question13 c size = leb (answered c) (length (c .gains)) && leb 285312 size
-
--- 14. Does the state hold at most eight keys and an oldest place below eight? question14 of slots/specs/Serve.antt
+answered c = activeIn (lentRoom c)
 
 -- 1 to 6, then 7, 18 and 19, then 8 to 13: about the arguments and the length of the store alone
 unfoldable pub argumentQuestions : Call → ℕ → List Question
+unfolding zoneQuestions lentQuestions
 argumentQuestions c size =
     layoutQuestions (c .layout)
     ++ (extentQuestions (c .extent)
-    ++ (record { number = 8; yes = question8 (c .flags) }
-    ∷ record { number = 9; yes = question9 (stateOf c) (c .layout) }
-    ∷ record { number = 10; yes = question10 (stateOf c) (c .layout) }
-    ∷ record { number = 11; yes = question11 c }
-    ∷ record { number = 12; yes = question12 c }
-    ∷ record { number = 13; yes = question13 c size }
-    ∷ []))
+    ++ (zoneQuestions (c .flags) (lentRoom c)
+    ++ lentQuestions (c .centre) (c .points) (answered c) (length (c .gains)) size))
 
+-- and then 14
 unfoldable pub callQuestions : Call → Found → List Question
-unfolding argumentQuestions
-callQuestions c f = argumentQuestions c (length (f .store)) ++ (record { number = 14; yes = question14 (f .count) (f .oldest) } ∷ [])
+unfolding argumentQuestions stateQuestions
+callQuestions c f = argumentQuestions c (length (f .store)) ++ stateQuestions (f .ring .count) (f .ring .oldest)
 
 -- ---- the call
 
--- what an accepted call wants: the selected layout and the epoch, n, mean and radius, and its own centre, point gains and gains slice
+-- what an accepted call wants: the selected room and its key, n, mean and radius, and its own centre, point gains and gains slice
 pub record Wanted : Type 0 where
-  pub layout : Layout
-  pub epoch : ℕ
+  pub room : Room
+  pub key : List ℕ
   pub n : ℕ
   pub mean : ℕ
   pub radius : Float
@@ -102,14 +121,15 @@ pub record Wanted : Type 0 where
   pub points : List Float
   pub gains : List Float
 
-abbrev pub selectedOf : Call → Layout
-selectedOf c = selectedLayout (stateOf c) (c .layout)
+abbrev pub selectedOf : Call → Room
+selectedOf c = selectedRoom (stateBy (c .flags)) (lentRoom c)
 
+-- key: selected room and epoch
 abbrev pub wanted : Call → Wanted
 wanted c =
     record {
-      layout = selectedOf c;
-      epoch = c .epoch;
+      room = selectedOf c;
+      key = keyNumbers (selectedOf c) (c .epoch);
       n = answered c;
       mean = meanOf (c .extent);
       radius = meanRadius (meanOf (c .extent));
@@ -126,47 +146,41 @@ pub record Answer : Type 0 where
   pub gains : List Float
   pub found : Found
 
--- key: selected layout and epoch
-abbrev pub keyOf : Wanted → List ℕ
-keyOf w = keyWords (w .layout) (w .epoch)
-
--- its place among those held; 8 where it is missing
-abbrev pub placeOfKey : Found → List ℕ → ℕ
-placeOfKey f key = findFrom (f .words) key (f .oldest) (upTo (f .count))
-
 -- the gains by place p of a store
 abbrev pub gainsBy : Wanted → List Float → ℕ → List Float
-gainsBy w store p = projected store p (w .n) (ltb 1 (w .layout .depth)) (w .mean) (w .radius) (w .centre) (w .points) (w .gains)
+gainsBy w store p = projected store p (w .n) (ltb 1 (length (w .room .layers))) (w .mean) (w .radius) (w .centre) (w .points) (w .gains)
 
--- the place of a new key, and what is held afterwards
-abbrev pub newPlace : Found → ℕ
-newPlace f = (f .oldest + f .count) % 8
-
+-- a new key is put last, and its field fills its place
 abbrev pub built : Wanted → Found → Found
 built w f =
-    record {
-      words = withKey (f .words) (newPlace f) (keyOf w);
-      count = cond (ltb (f .count) 8) (f .count + 1) (f .count);
-      oldest = cond (ltb (f .count) 8) (f .oldest) ((f .oldest + 1) % 8);
-      store = filled (w .layout) (newPlace f) (f .store);
-    }
+    let p = newPlace (f .ring) in
+    record { keys = withKey (f .keys) p (w .key); ring = ringAfter (f .ring); store = filled (w .room) p (f .store) }
 
 abbrev pub acceptedWith : Word → Wanted → Found → ℕ → Answer
 acceptedWith word w f p = record { refusal = 0; n = w .n; word = word; gains = gainsBy w (f .store) p; found = f }
 
--- mean 0: unused; a key that is held: kept; another one: built
-abbrev pub keyed : Wanted → Found → Answer
-keyed w f = let p = placeOfKey f (keyOf w) in cond (ltb p 8) (acceptedWith Kept w f p) (acceptedWith Built w (built w f) (newPlace f))
+-- a key that is held: kept; another one: built
+abbrev pub newlyBuilt : Wanted → Found → Answer
+newlyBuilt w f = acceptedWith Built w (built w f) (newPlace (f .ring))
 
+abbrev pub keyedBy : Wanted → Found → Slot → Answer
+keyedBy w f (At p) = acceptedWith Kept w f p
+keyedBy w f Missing = newlyBuilt w f
+
+abbrev pub keyedOf : Wanted → Found → Answer
+keyedOf w f = keyedBy w f (slotOf (f .keys) (f .ring) (w .key))
+
+-- mean 0: unused
 unfoldable pub served : Wanted → Found → Answer
-served w f = cond (eqb (w .mean) 0) (acceptedWith Unused w f 0) (keyed w f)
+served w f = cond (eqb (w .mean) 0) (acceptedWith Unused w f 0) (keyedOf w f)
 
-abbrev pub refusedBy : ℕ → Call → Found → Answer
-refusedBy q c f = record { refusal = q; n = 0; word = Unused; gains = c .gains; found = f }
+-- refused: nothing has changed
+abbrev pub refusedBy : ℕ → List Float → Found → Answer
+refusedBy q gains f = record { refusal = q; n = 0; word = Unused; gains = gains; found = f }
 
 unfoldable pub answerOf : Call → Found → Answer
 unfolding callQuestions served
-answerOf c f = let q = firstNo (callQuestions c f) in cond (eqb q 0) (served (wanted c) f) (refusedBy q c f)
+answerOf c f = let q = firstNo (callQuestions c f) in cond (eqb q 0) (served (wanted c) f) (refusedBy q (c .gains) f)
 
 -- an answer as the enum: the number of the refusal, or n and the word
 abbrev pub outcomeOf : Answer → Outcome

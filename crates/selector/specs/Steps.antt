@@ -1,85 +1,83 @@
--- What the parts of the call work with: its arguments as they are lent. Definitions only.
-use Prim.Native.Nat.{ℕ, _+_, _%_}
+-- What the parts of the call work with: a key, and the arguments as they are lent. Definitions only.
+use Prim.Native.Nat.{ℕ}
 use mathlib.Core.Path.{_≡_}
-use mathlib.Core.Bool.{Bool, true, false, cond}
-use mathlib.Core.List.{List, [], _∷_, _++_}
-use lib.Dec.{ltb}
+use mathlib.Core.Bool.{Bool, cond}
+use mathlib.Core.List.{List, _++_}
+use lib.Dec.{eqb}
 use lib.Ieee.{Float}
-use lib.ListN.{replicate}
-use Rattle.doubles.specs.Arithmetic.{zero}
+use lib.ListN.{length}
 use Rattle.layout.specs.declared.Layout.{Layout}
 use Rattle.layout.specs.Questions.{Question, firstNo, layoutQuestions}
+use Rattle.layout.specs.Room.{activeIn}
 use Rattle.extent.specs.declared.Extent.{Extent}
-use Rattle.extent.specs.Extent.{extentQuestions}
-use Rattle.gains.specs.declared.Centre.{Centre}
-use Rattle.region.specs.Zones.{zonesOf, question8, defaultState}
-use Rattle.selection.specs.Selection.{question9, question10, selectedLayout}
-use Rattle.keys.specs.Keys.{keyWords}
-use Rattle.slots.specs.declared.Ring.{Ring}
-use Rattle.slots.specs.declared.Word.{Word}
-use Rattle.slots.specs.declared.Word.the-variants.{Unused, Kept, Built}
+use Rattle.extent.specs.Extent.{extentQuestions, meanOf, meanRadius}
+use Rattle.layout.specs.declared.Centre.{Centre}
+use Rattle.keys.specs.InKey.{layoutIn, roomIn}
+use Rattle.selection.specs.Steps.{selectedKey}
+use Rattle.cache.specs.declared.Ring.{Ring}
+use Rattle.cache.specs.Questions.{lentQuestions, stateQuestions}
 use Rattle.selector.specs.declared.Plan.{Plan}
+use Rattle.selector.specs.declared.Plan.the-variants as plan
 use Rattle.selector.specs.declared.Reply.{Reply}
 use Rattle.selector.specs.declared.Selector.{Selector}
-use Rattle.selector.specs.Call.{Call, Found, Wanted, Answer, stateIn, outcomeOf}
+use Rattle.selector.specs.Call.{Call, Found, Wanted, Answer, stateBy, zoneQuestions, served, refusedBy, answerOf, outcomeOf}
 
--- questions 8 to 10; those of the extent and these; and questions 1 to 6 before all of them
-unfoldable pub zoneQuestions : Layout → List Bool → List Question
-zoneQuestions l flags =
-    let s = stateIn (zonesOf flags) in
-    record { number = 8; yes = question8 flags }
-    ∷ record { number = 9; yes = question9 s l }
-    ∷ record { number = 10; yes = question10 s l }
-    ∷ []
+-- ---- by a key
 
-abbrev pub objectQuestions : Layout → Extent → List Bool → List Question
-objectQuestions l e flags = extentQuestions e ++ zoneQuestions l flags
-
-unfoldable pub planQuestions : Layout → Extent → List Bool → List Question
+-- 1 to 6 of the layout in a key, then those of the extent, then 8 to 10
+unfoldable pub planQuestions : List ℕ → Extent → List Bool → List Question
 unfolding zoneQuestions
-planQuestions l e flags = layoutQuestions l ++ objectQuestions l e flags
+planQuestions key e flags = layoutQuestions (layoutIn key) ++ (extentQuestions e ++ zoneQuestions flags (roomIn key))
 
-abbrev pub refusedPlan : ℕ → Plan
-refusedPlan q = record { refusal = q; state = defaultState; mean = 0; radius = zero }
+-- their first no, or mean and radius
+unfoldable pub planOf : List ℕ → Extent → List Bool → Plan
+unfolding planQuestions
+planOf key e flags =
+    let q = firstNo (planQuestions key e flags) in
+    cond (eqb q 0) (plan.Wide (meanOf e) (meanRadius (meanOf e))) (plan.Refused q)
 
--- a plan by the first no of these questions; where there is none, with the state of the flags and the key of the selected layout
-abbrev pub ChosenBy : Layout → ℕ → List Bool → List Question → ℕ → Float → List ℕ → Plan → Type 0
-ChosenBy l epoch flags qs mean radius key p =
-    let s = stateIn (zonesOf flags) in
-    (p .refusal ≡ firstNo qs) × (p .refusal ≡ 0 → (p .state ≡ s) × (key ≡ keyWords (selectedLayout s l) epoch) × (p .mean ≡ mean) × (p .radius ≡ radius))
+-- where there is none, the key becomes that of the selected room
+unfoldable pub plannedKey : List ℕ → Extent → List Bool → List ℕ
+unfolding planQuestions selectedKey
+plannedKey key e flags = cond (eqb (firstNo (planQuestions key e flags)) 0) (selectedKey (stateBy flags) key) key
 
--- the call by its arguments
+-- what is wanted of the room in a key
+abbrev pub wantedIn : List ℕ → ℕ → Float → Centre → List Float → List Float → Wanted
+wantedIn key mean radius c points gains =
+    record { room = roomIn key; key = key; n = activeIn (roomIn key); mean = mean; radius = radius; centre = c; points = points; gains = gains }
+
+-- 11 to 14
+abbrev pub laterQuestions : Wanted → Found → List Question
+laterQuestions w f =
+    lentQuestions (w .centre) (w .points) (w .n) (length (w .gains)) (length (f .store))
+    ++ stateQuestions (f .ring .count) (f .ring .oldest)
+
+-- the answer where only these may refuse
+unfoldable pub laterAnswer : Wanted → Found → Answer
+unfolding served
+laterAnswer w f = let q = firstNo (laterQuestions w f) in cond (eqb q 0) (served w f) (refusedBy q (w .gains) f)
+
+-- ---- the arguments as they are lent
+
 abbrev pub callBy : Layout → ℕ → Extent → List Bool → Centre → List Float → List Float → Call
 callBy l epoch e flags c points gains = record { layout = l; epoch = epoch; extent = e; flags = flags; centre = c; points = points; gains = gains }
 
+abbrev pub foundBy : List ℕ → Ring → List Float → Found
+foundBy keys r store = record { keys = keys; ring = r; store = store }
+
+-- what a call answers and leaves
+abbrev pub answerTo : Layout → ℕ → Extent → List Bool → Centre → List Float → List Float → Found → Answer
+answerTo l epoch e flags c points gains f = answerOf (callBy l epoch e flags c points gains) f
+
 -- an answer, as it is returned
 abbrev pub replyOf : Answer → Reply
-replyOf a = record { outcome = outcomeOf a; ring = record { count = a .found .count; oldest = a .found .oldest } }
+replyOf a = record { outcome = outcomeOf a; ring = a .found .ring }
 
--- the ring after a new key
-abbrev pub ringAfter : Ring → Ring
-ringAfter r = record { count = cond (ltb (r .count) 8) (r .count + 1) (r .count); oldest = cond (ltb (r .count) 8) (r .oldest) ((r .oldest + 1) % 8) }
-
--- what is found: words, ring and store
-abbrev pub foundBy : List ℕ → Ring → List Float → Found
-foundBy words r store = record { words = words; count = r .count; oldest = r .oldest; store = store }
-
--- what is wanted
-abbrev pub wantedBy : Layout → ℕ → ℕ → ℕ → Float → Centre → List Float → List Float → Wanted
-wantedBy l epoch n mean radius c points gains = record { layout = l; epoch = epoch; n = n; mean = mean; radius = radius; centre = c; points = points; gains = gains }
-
-abbrev pub isBuilt : Word → Bool
-isBuilt Unused = false
-isBuilt Kept = false
-isBuilt Built = true
+-- a reply, and keys, store and gains afterwards, as an answer has them
+abbrev pub Leaves : Answer → Reply → List ℕ → List Float → List Float → Type 0
+Leaves a s keys store gains = (s ≡ replyOf a) × ((keys ≡ a .found .keys) × ((store ≡ a .found .store) × (gains ≡ a .gains)))
 
 -- ---- a selector by value
 
-abbrev pub freshSelector : Selector
-freshSelector = record { words = replicate 1248 0; count = 0; oldest = 0 }
-
-abbrev pub foundIn : Selector → List Float → Found
-foundIn s store = record { words = s .words; count = s .count; oldest = s .oldest; store = store }
-
 abbrev pub selectorOf : Answer → Selector
-selectorOf a = record { words = a .found .words; count = a .found .count; oldest = a .found .oldest }
+selectorOf a = record { keys = a .found .keys; count = a .found .ring .count; oldest = a .found .ring .oldest }

@@ -1,18 +1,17 @@
 // The selector: eight kept fields, and the call for gains.
 ghost use mathlib.Core.Path.{_≡_};
-ghost use Rattle.selector.specs.Call.{outcomeOf, answerOf};
-ghost use Rattle.selector.specs.Steps.{callBy, freshSelector, foundIn, selectorOf};
+ghost use Rattle.selector.specs.Call.{outcomeOf, foundIn, freshSelector};
+ghost use Rattle.selector.specs.Steps.{answerTo, selectorOf};
 
-mod asked;
 mod call;
+mod planning;
 
+pub use cache::Ring;
+pub use cache::Word;
 pub use call::project_outcome_with_epoch;
 use extent::Extent;
-use gains::Centre;
+use layout::Centre;
 use layout::Layout;
-use region::RegionSemanticState;
-pub use slots::Ring;
-pub use slots::Word;
 
 // The answer of a call: the number of the refusal, or how many gains and a word.
 pub enum Outcome {
@@ -28,13 +27,13 @@ pub struct Reply {
 
 // A selector: the numbers of eight keys, 156 to a key, how many are held, and the oldest place.
 pub struct Selector {
-    pub words: [u64; 1248],
+    pub keys: [u64; 1248],
     pub count: usize,
     pub oldest: usize,
 }
 
 // What a call answers, with the selector that it leaves.
-pub struct Replied {
+pub struct SelectorReply {
     pub outcome: Outcome,
     pub selector: Selector,
 }
@@ -45,7 +44,7 @@ impl Selector {
         ensures { λ r. ⌜ r ≡ freshSelector ⌝ }
     {
         Selector {
-            words: [0u64; 1248],
+            keys: [0u64; 1248],
             count: 0,
             oldest: 0,
         }
@@ -62,18 +61,23 @@ impl Selector {
         c: Centre,
         points: &[f64],
         gains: &mut [f64],
-    ) -> Replied
-        ensures { λ r. ⌜ r ≡ record { outcome = outcomeOf (answerOf (callBy l epoch e flags c (now (points .entry)) (now (gains .entry))) (foundIn self (now (store .entry)))); selector = selectorOf (answerOf (callBy l epoch e flags c (now (points .entry)) (now (gains .entry))) (foundIn self (now (store .entry)))) } ⌝ }
-        ensures store { λ r. ⌜ now (store .exit) ≡ answerOf (callBy l epoch e flags c (now (points .entry)) (now (gains .entry))) (foundIn self (now (store .entry))) .found .store ⌝ }
-        ensures gains { λ r. ⌜ now (gains .exit) ≡ answerOf (callBy l epoch e flags c (now (points .entry)) (now (gains .entry))) (foundIn self (now (store .entry))) .gains ⌝ }
+    ) -> SelectorReply
+        ensures { λ r. ⌜ r .outcome ≡ outcomeOf (answerTo l epoch e flags c (now (points .entry)) (now (gains .entry))
+            (foundIn self (now (store .entry)))) ⌝ }
+        ensures selector { λ r. ⌜ r .selector ≡ selectorOf (answerTo l epoch e flags c (now (points .entry)) (now (gains .entry))
+            (foundIn self (now (store .entry)))) ⌝ }
+        ensures store { λ _. ⌜ now (store .exit) ≡ answerTo l epoch e flags c (now (points .entry)) (now (gains .entry))
+            (foundIn self (now (store .entry))) .found .store ⌝ }
+        ensures gains { λ _. ⌜ now (gains .exit) ≡ answerTo l epoch e flags c (now (points .entry)) (now (gains .entry))
+            (foundIn self (now (store .entry))) .gains ⌝ }
     {
-        let mut words = self.words;
+        let mut keys = self.keys;
         let r = Ring {
             count: self.count,
             oldest: self.oldest,
         };
         let reply = project_outcome_with_epoch(
-            &mut words,
+            &mut keys,
             r,
             store,
             l,
@@ -86,10 +90,10 @@ impl Selector {
         );
         let outcome = reply.outcome;
         let ring = reply.ring;
-        Replied {
+        SelectorReply {
             outcome: outcome,
             selector: Selector {
-                words: words,
+                keys: keys,
                 count: ring.count,
                 oldest: ring.oldest,
             },
@@ -97,11 +101,9 @@ impl Selector {
     }
 }
 
-// What the questions of the extent and 8 to 10 leave of a call: the number of the first no, 0 where
-// there is none, and then the region state, the mean and the radius.
-struct Plan {
-    refusal: u64,
-    state: RegionSemanticState,
-    mean: u64,
-    radius: f64,
+// What the questions before question 11 leave of a call: the number of the first no, or the mean and
+// the radius.
+enum Plan {
+    Refused(u64),
+    Wide(u64, f64),
 }

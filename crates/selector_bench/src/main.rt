@@ -8,8 +8,8 @@
 // that go down by one, so that each builds its field; both on a fresh selector. The last number of
 // keys held is written.
 use extent::Extent;
-use gains::Centre;
 use layout::Anchor;
+use layout::Centre;
 use layout::Channel;
 use layout::Layout;
 use libc::STDIN_FILENO;

@@ -1,7 +1,5 @@
-pub mod KeyEntries
-pub mod KeyLaws
-pub mod Places
-pub mod Held
-pub mod Serving
 pub mod Calls
+pub mod Held
 pub mod Law
+pub mod Places
+pub mod Serving

@@ -7,7 +7,8 @@ use native.Mathlib.Nat.{eq-or-lt-of-le}
 use native.Mathlib.Omega.{arith}
 use lib.ListN.{length, getD, drop, length-append, length-drop, length-map, length-take, List·getD-append}
 use lib.Seq.{getD-at, getD-drop, getD-take, ext-getD}
-use Rattle.keys.specs.Keys.{upTo}
+use Rattle.cache.specs.Places.{firstPlaces}
+use Rattle.cache.proofs.KeyCompare.{eight-at}
 
 -- the seven places behind the oldest are not the one that a turn gives away
 not-given : (o i n : ℕ) → o < 8 → i < 7 → n ≡ 8 → (o + (1 + i)) % 8 ≡ (o + n) % 8 → ⊥
@@ -45,31 +46,20 @@ module _ {K : Type 0} (none : K) (P N : ℕ → K → Type 0) (o : ℕ) (key : K
       (eq-or-lt-of-le (omega (arith, seven, simp length-append at l)))
 
 -- ---- the numbers up to n
-at-itself : (i : ℕ) → i < 8 → getD (0 ∷ 1 ∷ 2 ∷ 3 ∷ 4 ∷ 5 ∷ 6 ∷ 7 ∷ []) i 0 ≡ i
-at-itself zero h = refl
-at-itself (suc zero) h = refl
-at-itself (suc (suc zero)) h = refl
-at-itself (suc (suc (suc zero))) h = refl
-at-itself (suc (suc (suc (suc zero)))) h = refl
-at-itself (suc (suc (suc (suc (suc zero))))) h = refl
-at-itself (suc (suc (suc (suc (suc (suc zero)))))) h = refl
-at-itself (suc (suc (suc (suc (suc (suc (suc zero))))))) h = refl
-at-itself (suc (suc (suc (suc (suc (suc (suc (suc i)))))))) h = absurd (omega arith)
-
-pub up-length : (n : ℕ) → n ≤ 8 → length (upTo n) ≡ n
-up-length n h = rw length-take (omega arith)
+pub places-length : (n : ℕ) → n ≤ 8 → length (firstPlaces n) ≡ n
+places-length n h = rw length-take (omega arith)
 
 -- what is said of each number up to n
-pub listed-up : {A K : Type 0} (g : ℕ → A) (h : K → A) (none : K) (ks : List K) (n : ℕ) → length ks ≡ n → n ≤ 8 → ((i : ℕ) → i < n → g i ≡ h (getD ks i none)) → map g (upTo n) ≡ map h ks
+pub listed-up : {A K : Type 0} (g : ℕ → A) (h : K → A) (none : K) (ks : List K) (n : ℕ) → length ks ≡ n → n ≤ 8 → ((i : ℕ) → i < n → g i ≡ h (getD ks i none)) → map g (firstPlaces n) ≡ map h ks
 listed-up g h none ks n e few same =
-    let m = up-length n few in
-    let u = length-map (upTo n) g in
+    let m = places-length n few in
+    let u = length-map (firstPlaces n) g in
     let v = length-map ks h in
-    ext-getD (h none) (map g (upTo n)) (map h ks) (omega arith)
+    ext-getD (h none) (map g (firstPlaces n)) (map h ks) (omega arith)
     (λ i l.
     let j : i < n = omega arith in
-    getD-map-in g (upTo n) i 0 (h none) (omega arith)
-    ∙ ap g (getD-take n (0 ∷ 1 ∷ 2 ∷ 3 ∷ 4 ∷ 5 ∷ 6 ∷ 7 ∷ []) i 0 j ∙ at-itself i (omega arith))
+    getD-map-in g (firstPlaces n) i 0 (h none) (omega arith)
+    ∙ ap g (getD-take n (0 ∷ 1 ∷ 2 ∷ 3 ∷ 4 ∷ 5 ∷ 6 ∷ 7 ∷ []) i 0 j ∙ eight-at i (omega arith))
     ∙ same i j
     ∙ sym (getD-map-in h ks i none (h none) (omega arith)))
   where

@@ -1,9 +1,10 @@
 // A layout's topology as lists of numbers, for the code that walks it.
 ghost use mathlib.Core.Path.{_≡_};
 ghost use mathlib.Core.List.{map};
-ghost use Rattle.layout.specs.Topology.{layerStarts, anchorPlace, layerZ, rowY, anchorX, anchorName};
+ghost use Rattle.layout.specs.Topology.{layerZ, rowY, anchorX, anchorName};
+ghost use Rattle.layout.specs.Steps.Starts.{layerStarts, anchorIndex};
 use channels::active_names;
-use channels::place_of;
+use channels::index_of;
 use layout::Layout;
 use layout::anchor_starts;
 use layout::row_starts;
@@ -57,15 +58,15 @@ pub fn anchor_names(l: Layout, out: &mut [u64; 24])
 }
 
 // The place, among the active channels, of the channel that each anchor names.
-pub fn anchor_places(l: Layout, out: &mut [usize; 24])
-    ensures { λ _. ⌜ now (out .exit) ≡ map (anchorPlace l) (l .anchors) ⌝ }
+pub fn anchor_indices(l: Layout, out: &mut [usize; 24])
+    ensures { λ _. ⌜ now (out .exit) ≡ map (anchorIndex l) (l .anchors) ⌝ }
 {
     let places: &mut [usize] = out;
     let mut names = [0u64; 24];
     let n = active_names(l, &mut names);
     let mut i = 0usize;
     while i < 24 {
-        places[i] = place_of(&names, n, l.anchors[i].name);
+        places[i] = index_of(&names, n, l.anchors[i].name);
         i += 1;
     }
 }

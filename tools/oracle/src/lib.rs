@@ -59,6 +59,10 @@ pub mod extent {
             pub fn project(&self, layout: &crate::SpatialLayout, descriptor: &crate::SpatialDescriptor) -> Vec<f64> {
                 self.0.project(layout, descriptor).unwrap()
             }
+            /// The gains where the mean is not 0 and the radius is one of the driver's choice.
+            pub fn project_at(&self, layout: &crate::SpatialLayout, descriptor: &crate::SpatialDescriptor, radius: f64) -> Vec<f64> {
+                self.0.project_at(layout, descriptor, 1, radius).unwrap()
+            }
             /// The field whose numbers are those of a place of the store, for n active channels,
             /// with a Z table or without.
             pub fn of_place(place: &[f64], n: usize, deep: bool) -> Self {
@@ -94,6 +98,18 @@ pub mod extent {
             }
         }
 
+        pub fn radius(scalar: f64) -> f64 {
+            super::extent_radius(scalar)
+        }
+        pub fn kernel(u: f64, center: f64, radius: f64, z_axis: bool) -> f64 {
+            super::compact_quartic_kernel(u, center, radius, z_axis)
+        }
+        pub fn shaped(value: f64, exponent: f64) -> f64 {
+            super::shaped(value, exponent)
+        }
+        pub fn exponent(radius: f64) -> f64 {
+            super::shaping_exponent(radius)
+        }
         pub fn exp2(value: f64) -> f64 {
             super::approx_exp2(value)
         }

@@ -176,6 +176,58 @@ pub fn old() -> Vec<SpatialLayout> {
     list
 }
 
+/// Rooms whose selection turns on a channel that is not active, switched off, LFE or both: 5.1 with one of the
+/// six names that a five-x room has none of, and a floor with a layer below it and FLc.
+pub fn inactive() -> Vec<SpatialLayout> {
+    let bed = "FL FR FC LFE:lfe Ls Rs";
+    let below = "FL FR FC Ls Rs BtFL BtFR";
+    let mut list = Vec::new();
+    for name in ["Lb", "Rb", "BL", "BR", "Lw", "Rw", "FLc"] {
+        for (enabled, lfe) in [(false, false), (true, true), (false, true)] {
+            let mut l = if name == "FLc" {
+                room((below, &[(-1.0, &[(0.0, &[("BtFL", 0.0), ("BtFR", 1.0)])]), (0.0, BED5)]))
+            } else {
+                room((bed, &[(0.0, BED5)]))
+            };
+            l.channels.push(SpatialLayoutChannel { identity: name.to_owned(), enabled, lfe });
+            list.push(l);
+        }
+    }
+    list
+}
+
+/// Rooms with up to six rows in a layer, the most that there may be, and with more in one of the layers, in
+/// several and in all, where nothing else is wrong. Each row has one anchor.
+pub fn rows() -> Vec<SpatialLayout> {
+    let counts: [&[usize]; 20] = [
+        &[6],
+        &[7],
+        &[8],
+        &[24],
+        &[6, 6],
+        &[7, 6],
+        &[6, 7],
+        &[1, 7],
+        &[12, 12],
+        &[6, 6, 6],
+        &[7, 6, 6],
+        &[6, 7, 6],
+        &[6, 6, 7],
+        &[7, 7, 7],
+        &[6, 6, 6, 6],
+        &[7, 6, 6, 5],
+        &[5, 7, 6, 6],
+        &[6, 5, 7, 6],
+        &[6, 6, 5, 7],
+        &[1, 1, 1, 7],
+    ];
+    let of = |rows: &&[usize]| {
+        let layers: Vec<Vec<usize>> = rows.iter().map(|&count| vec![1; count]).collect();
+        on_one("FC", &layers.iter().map(Vec::as_slice).collect::<Vec<_>>())
+    };
+    counts.iter().map(of).collect()
+}
+
 const NAMES: [&str; 40] = [
     "FL", "FR", "FC", "Ls", "Rs", "Lb", "Rb", "BL", "BR", "BC", "SiL", "SiR", "Lw", "Rw", "FLc", "FRc", "TpFL", "TpFR",
     "TpFC", "TpC", "TpBL", "TpBR", "TpBC", "TpSiL", "TpSiR", "BtFC", "BtFL", "BtFR", "a", "b", "c", "d", "e", "f", "g",

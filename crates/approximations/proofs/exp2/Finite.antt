@@ -11,7 +11,7 @@ use lib.Pow.{pow-pos, pow-mono}
 use lib.Ieee.{Float, nan, inf, fin, binary64, low, up, down, round, sum, add, sub, neg, mul, lt, le, eq, fits, toSigned}
 use lib.Ieee.Fits.{up-pos, down-pos, round-fits}
 use lib.Ieee.Scale.{finite}
-use Rattle.doubles.specs.Arithmetic.{_⊕_, _⊖_, _⊗_, dec, whole, one}
+use Rattle.doubles.specs.Arithmetic.{_⊕_, _⊖_, _⊗_, dec, fromInt, one64}
 use Rattle.doubles.specs.Floor.{floorOf}
 use Rattle.doubles.specs.Power.{pow2Of}
 use Rattle.doubles.proofs.Magnitude.{mag, plain, plain-finite}
@@ -28,40 +28,40 @@ use Rattle.approximations.proofs.exp2.Sign.{neg-value, up-from}
 use Rattle.approximations.proofs.exp2.Ranges.{Bound, bound, room, exponent-bounds, product-is}
 
 -- ---- the fraction v - n
-one-units : 2 ^ low binary64 ≤ mag binary64 one
+one-units : 2 ^ low binary64 ≤ mag binary64 one64
 one-units = lit≤ tt
 
-one-to-units : mag binary64 one ≤ 2 ^ low binary64
+one-to-units : mag binary64 one64 ≤ 2 ^ low binary64
 one-to-units = lit≤ tt
 
-rounded-to-one : (x : Float) (a c : ℕ) → 0 < c → a ≤ c → x ≡ round binary64 false a c → UpTo binary64 one x
+rounded-to-one : (x : Float) (a c : ℕ) → 0 < c → a ≤ c → x ≡ round binary64 false a c → UpTo binary64 one64 x
 rounded-to-one x a c C h e =
     let u = 2 ^ low binary64 in
-    let r = round-under-value binary64 a c one (one-fits binary64) tt C (le-trans (mul-le-mul-right u h) (le-trans (le-of-eq (mul-comm c u)) (mul-le-mul-right c one-units))) in
+    let r = round-under-value binary64 a c one64 (one-fits binary64) tt C (le-trans (mul-le-mul-right u h) (le-trans (le-of-eq (mul-comm c u)) (mul-le-mul-right c one-units))) in
     let f = round-fits binary64 false a c in
-    subst (λ (z : Float). UpTo binary64 one z) (sym e) (f, r .0, mag-le binary64 (round binary64 false a c) one f (one-fits binary64) (r .0) tt (r .1))
+    subst (λ (z : Float). UpTo binary64 one64 z) (sym e) (f, r .0, mag-le binary64 (round binary64 false a c) one64 f (one-fits binary64) (r .0) tt (r .1))
 
 some : (D : ℕ) → 0 < D → 0 < D * 1
 some D P = omega arith
 
 -- v from 0 up, n no more than v
-plus-fraction : (m : ℕ) (e : ℤ) (q : ℕ) → q ≤ 2 ^ 53 → q * down e ≤ m * up e → m * up e ≤ q * down e + down e → UpTo binary64 one (fin false m e ⊖ whole (pos q))
+plus-fraction : (m : ℕ) (e : ℤ) (q : ℕ) → q ≤ 2 ^ 53 → q * down e ≤ m * up e → m * up e ≤ q * down e + down e → UpTo binary64 one64 (fin false m e ⊖ fromInt (pos q))
 plus-fraction m e q h lo hi =
-    rounded-to-one (fin false m e ⊖ whole (pos q)) (m * up e * 1 - q * down e) (down e * 1) (some (down e) (down-pos e)) (omega arith)
+    rounded-to-one (fin false m e ⊖ fromInt (pos q)) (m * up e * 1 - q * down e) (down e * 1) (some (down e) (down-pos e)) (omega arith)
     (unfold sub in
-    add-of binary64 (fin false m e) (neg (whole (pos q))) false (m * up e) (down e) true q 1 (down-pos e) (zero-lt-suc 0) (refl, refl) (neg-value (whole (pos q)) false q 1 (int-value (pos q) h))
+    add-of binary64 (fin false m e) (neg (fromInt (pos q))) false (m * up e) (down e) true q 1 (down-pos e) (zero-lt-suc 0) (refl, refl) (neg-value (fromInt (pos q)) false q 1 (int-value (pos q) h))
     ∙ sum-plain binary64 (m * up e * 1) (q * down e) (down e * 1) (omega arith))
 
 -- v below 0, |n| no less than |v|
-minus-fraction : (m : ℕ) (e : ℤ) (k : ℕ) → suc k ≤ 2 ^ 53 → m * up e ≤ suc k * down e → suc k * down e ≤ m * up e + down e → UpTo binary64 one (fin true m e ⊖ whole (negsuc k))
+minus-fraction : (m : ℕ) (e : ℤ) (k : ℕ) → suc k ≤ 2 ^ 53 → m * up e ≤ suc k * down e → suc k * down e ≤ m * up e + down e → UpTo binary64 one64 (fin true m e ⊖ fromInt (negsuc k))
 minus-fraction m e k h lo hi =
-    rounded-to-one (fin true m e ⊖ whole (negsuc k)) (suc k * down e - m * up e * 1) (down e * 1) (some (down e) (down-pos e)) (omega arith)
+    rounded-to-one (fin true m e ⊖ fromInt (negsuc k)) (suc k * down e - m * up e * 1) (down e * 1) (some (down e) (down-pos e)) (omega arith)
     (unfold sub in
-    add-of binary64 (fin true m e) (neg (whole (negsuc k))) true (m * up e) (down e) false (suc k) 1 (down-pos e) (zero-lt-suc 0) (refl, refl) (neg-value (whole (negsuc k)) true (suc k) 1 (int-value (negsuc k) h))
+    add-of binary64 (fin true m e) (neg (fromInt (negsuc k))) true (m * up e) (down e) false (suc k) 1 (down-pos e) (zero-lt-suc 0) (refl, refl) (neg-value (fromInt (negsuc k)) true (suc k) 1 (int-value (negsuc k) h))
     ∙ sum-turned binary64 (m * up e * 1) (suc k * down e) (down e * 1) (omega arith))
 
 -- n is the floor of v, and v is not -0
-fraction : (s : Bool) (m : ℕ) (e : ℤ) → Bound s (m * up e) (down e) → T (not (minusZero (fin s m e))) → UpTo binary64 one (fin s m e ⊖ whole (floorInt s (m * up e) (down e)))
+fraction : (s : Bool) (m : ℕ) (e : ℤ) → Bound s (m * up e) (down e) → T (not (minusZero (fin s m e))) → UpTo binary64 one64 (fin s m e ⊖ fromInt (floorInt s (m * up e) (down e)))
 fraction false m e b n =
     let a = m * up e in
     let D = down e in
@@ -77,7 +77,7 @@ fraction true (suc m) e b n = at ((a + (D - 1)) / D) (up-to a D 1022 (down-pos e
     D : ℕ
     D = down e
 
-    at : (c : ℕ) → c ≤ 1022 → a ≤ c * D → c * D ≤ a + (D - 1) → UpTo binary64 one (fin true (suc m) e ⊖ whole (negℤ (pos c)))
+    at : (c : ℕ) → c ≤ 1022 → a ≤ c * D → c * D ≤ a + (D - 1) → UpTo binary64 one64 (fin true (suc m) e ⊖ fromInt (negℤ (pos c)))
     at zero h lo hi = let g = mul-pos (zero-lt-suc m) (up-pos e) in absurd (omega arith)
     at (suc k) h lo hi = minus-fraction (suc m) e k (omega arith) lo (omega arith)
 
@@ -92,10 +92,10 @@ abbrev A3 : Float
 A3 = dec 588989258 10
 
 -- a coefficient times a fraction is up to the coefficient
-scaled : (n k : ℕ) (x t : Float) → T (plain (dec n k)) → UpTo binary64 (dec n k) x → UpTo binary64 one t → UpTo binary64 (dec n k) (x ⊗ t)
+scaled : (n k : ℕ) (x t : Float) → T (plain (dec n k)) → UpTo binary64 (dec n k) x → UpTo binary64 one64 t → UpTo binary64 (dec n k) (x ⊗ t)
 scaled n k x t p v w =
     let h = round-fits binary64 false n (10 ^ k) in
-    mul-up-to-both binary64 (dec n k) one (dec n k) x t h (one-fits binary64) h p tt p (mul-le-mul (le-refl (mag binary64 (dec n k))) one-to-units) v w
+    mul-up-to-both binary64 (dec n k) one64 (dec n k) x t h (one-fits binary64) h p tt p (mul-le-mul (le-refl (mag binary64 (dec n k))) one-to-units) v w
 
 first-plain : T (plain A1)
 unfolding round
@@ -123,7 +123,7 @@ after-fits : T (fits binary64 afterFirst) × T (fits binary64 afterSecond) × T 
 unfolding fits
 after-fits = (tt, tt, tt)
 
-first-room : mag binary64 one + mag binary64 A1 ≤ mag binary64 afterFirst
+first-room : mag binary64 one64 + mag binary64 A1 ≤ mag binary64 afterFirst
 unfolding round
 first-room = lit≤ tt
 
@@ -135,7 +135,7 @@ third-room : mag binary64 afterSecond + mag binary64 A3 ≤ mag binary64 afterTh
 unfolding round
 third-room = lit≤ tt
 
-polynomial-up-to : (x : Float) → UpTo binary64 one x → UpTo binary64 afterThird (polynomialOf x)
+polynomial-up-to : (x : Float) → UpTo binary64 one64 x → UpTo binary64 afterThird (polynomialOf x)
 polynomial-up-to x u =
     let f1 = round-fits binary64 false 686279297 (10 ^ 9) in
     let f2 = round-fits binary64 false 254821777 (10 ^ 9) in
@@ -143,9 +143,9 @@ polynomial-up-to x u =
     let a = scaled 686279297 9 A1 x first-plain (up-to-self binary64 A1 f1 first-plain) u in
     let b = scaled 254821777 9 (A2 ⊗ x) x second-plain (scaled 254821777 9 A2 x second-plain (up-to-self binary64 A2 f2 second-plain) u) u in
     let c = scaled 588989258 10 (A3 ⊗ x ⊗ x) x third-plain (scaled 588989258 10 (A3 ⊗ x) x third-plain (scaled 588989258 10 A3 x third-plain (up-to-self binary64 A3 f3 third-plain) u) u) u in
-    let p = add-up-to-both binary64 one A1 afterFirst one (A1 ⊗ x) (one-fits binary64) f1 (after-fits .0) tt first-plain tt first-room (up-to-self binary64 one (one-fits binary64) tt) a in
-    let q = add-up-to-both binary64 afterFirst A2 afterSecond (one ⊕ A1 ⊗ x) (A2 ⊗ x ⊗ x) (after-fits .0) f2 (after-fits .1) tt second-plain tt second-room p b in
-    add-up-to-both binary64 afterSecond A3 afterThird (one ⊕ A1 ⊗ x ⊕ A2 ⊗ x ⊗ x) (A3 ⊗ x ⊗ x ⊗ x) (after-fits .1) f3 (after-fits .2) tt third-plain tt third-room q c
+    let p = add-up-to-both binary64 one64 A1 afterFirst one64 (A1 ⊗ x) (one-fits binary64) f1 (after-fits .0) tt first-plain tt first-room (up-to-self binary64 one64 (one-fits binary64) tt) a in
+    let q = add-up-to-both binary64 afterFirst A2 afterSecond (one64 ⊕ A1 ⊗ x) (A2 ⊗ x ⊗ x) (after-fits .0) f2 (after-fits .1) tt second-plain tt second-room p b in
+    add-up-to-both binary64 afterSecond A3 afterThird (one64 ⊕ A1 ⊗ x ⊕ A2 ⊗ x ⊗ x) (A3 ⊗ x ⊗ x ⊗ x) (after-fits .1) f3 (after-fits .2) tt third-plain tt third-room q c
 
 -- ---- the power, up to 2 ^ 1022
 abbrev greatestPower : Float
@@ -184,15 +184,15 @@ product-room = lit≤ tt
 abbrev Finite : Float → Float → Type 0
 Finite v n = T (finite (polynomialOf (v ⊖ n) ⊗ pow2Of binary64 (toSigned 31 n)))
 
-near-finite : (s : Bool) (m : ℕ) (e : ℤ) → Bound s (m * up e) (down e) → T (not (minusZero (fin s m e))) → Finite (fin s m e) (whole (floorInt s (m * up e) (down e)))
+near-finite : (s : Bool) (m : ℕ) (e : ℤ) → Bound s (m * up e) (down e) → T (not (minusZero (fin s m e))) → Finite (fin s m e) (fromInt (floorInt s (m * up e) (down e)))
 near-finite s m e b n =
     let v = fin s m e in
     let z = floorInt s (m * up e) (down e) in
     let r = exponent-bounds s (m * up e) (down e) (down-pos e) b in
-    let u = polynomial-up-to (v ⊖ whole z) (fraction s m e b n) in
+    let u = polynomial-up-to (v ⊖ fromInt z) (fraction s m e b n) in
     let w = power-up-to z (r .1) in
-    let t = mul-up-to-both binary64 afterThird greatestPower greatestProduct (polynomialOf (v ⊖ whole z)) (pow2Of binary64 z) (after-fits .2) power-fits product-fits tt tt tt product-room u w in
-    subst (λ (k : ℤ). T (finite (polynomialOf (v ⊖ whole z) ⊗ pow2Of binary64 k))) (sym (whole-back z (r .0) (r .1))) (plain-finite (polynomialOf (v ⊖ whole z) ⊗ pow2Of binary64 z) (t .1))
+    let t = mul-up-to-both binary64 afterThird greatestPower greatestProduct (polynomialOf (v ⊖ fromInt z)) (pow2Of binary64 z) (after-fits .2) power-fits product-fits tt tt tt product-room u w in
+    subst (λ (k : ℤ). T (finite (polynomialOf (v ⊖ fromInt z) ⊗ pow2Of binary64 k))) (sym (whole-back z (r .0) (r .1))) (plain-finite (polynomialOf (v ⊖ fromInt z) ⊗ pow2Of binary64 z) (t .1))
 
 at-minus-zero : Finite (fin true 0 (pos 0)) (floorOf binary64 (fin true 0 (pos 0)) ⊕ zeroF)
 unfolding pow2Of floorOf toSigned add sub neg mul sum round

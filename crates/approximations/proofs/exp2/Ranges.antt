@@ -12,7 +12,7 @@ use lib.Ieee.{Float, nan, inf, fin, Format, binary64, prec, emax, low, up, down,
 use lib.Ieee.Fits.{down-pos, round-is}
 use lib.Ieee.Bits.{is-false}
 use lib.Ieee.Scale.{finite}
-use Rattle.doubles.specs.Arithmetic.{_⊕_, _⊖_, _⊗_, whole}
+use Rattle.doubles.specs.Arithmetic.{_⊕_, _⊖_, _⊗_, fromInt}
 use Rattle.doubles.specs.Floor.{floorOf}
 use Rattle.doubles.specs.Power.{pow2Of}
 use Rattle.approximations.specs.Exp2.{polynomialOf, outside32, finiteOrZero, exp2At, exp2Of, NormalExponent}
@@ -149,11 +149,11 @@ floor-number (inf s) t = absurd t
 floor-number (fin false m e) t = round-number binary64 false (m * up e / down e) 1
 floor-number (fin true m e) t = round-number binary64 true ((m * up e + (down e - 1)) / down e) 1
 
-least-is : whole (negsuc 2147483647) ≡ fin true 1 (pos 31)
+least-is : fromInt (negsuc 2147483647) ≡ fin true 1 (pos 31)
 unfolding ofInt round
 least-is = refl
 
-most-is : whole (pos 2147483647) ≡ fin false 2147483647 (pos 0)
+most-is : fromInt (pos 2147483647) ≡ fin false 2147483647 (pos 0)
 unfolding ofInt round
 most-is = refl
 
@@ -161,7 +161,7 @@ abbrev pub tested : Float → Bool
 tested n = lt n (fin true 1 (pos 31)) || lt (fin false 2147483647 (pos 0)) n
 
 tested-is : (n : Float) → outside32 n ≡ tested n
-tested-is n = ap (λ (z : Float). lt n z || lt (whole (pos 2147483647)) n) least-is ∙ ap (λ (z : Float). lt n (fin true 1 (pos 31)) || lt z n) most-is
+tested-is n = ap (λ (z : Float). lt n z || lt (fromInt (pos 2147483647)) n) least-is ∙ ap (λ (z : Float). lt n (fin true 1 (pos 31)) || lt z n) most-is
 
 -- what the cast asks, and that it is the definition's
 abbrev Casts : Float → Type 0

@@ -11,7 +11,7 @@ use lib.Ieee.{Float, nan, inf, fin, Format, binary64, low, up, down, round, add,
 use lib.Ieee.Fits.{down-pos, round-fits, neg-fits, mul-fits}
 use lib.Ieee.Exact.{HasValue}
 use lib.Ieee.Scale.{finite}
-use Rattle.doubles.specs.Arithmetic.{_⊕_, _⊖_, _⊗_, dec, zero, one}
+use Rattle.doubles.specs.Arithmetic.{_⊕_, _⊖_, _⊗_, dec, zero64, one64}
 use Rattle.doubles.specs.Floor.{floorOf}
 use Rattle.doubles.specs.Power.{pow2Of}
 use Rattle.approximations.specs.Exp2.{polynomialOf, outside32, finiteOrZero, exp2At, exp2Of}
@@ -37,7 +37,7 @@ unfolding exp2Of exp2At
 exp2-finite v =
     let n = floorOf binary64 v in
     let r = polynomialOf (v ⊖ n) ⊗ pow2Of binary64 (toSigned 31 n) in
-    finite-choice (finite v) (exp2At v n) zero (finite-choice (outside32 n) zero (finiteOrZero r) tt (finite-cond r)) tt
+    finite-choice (finite v) (exp2At v n) zero64 (finite-choice (outside32 n) zero64 (finiteOrZero r) tt (finite-cond r)) tt
 
 -- ---- x - y for a y up to x, and y - x
 pub neg-value : (y : Float) (s : Bool) (b d : ℕ) → HasValue y s b d → HasValue (neg y) (not s) b d
@@ -110,7 +110,7 @@ polynomial-clear x c =
     let A = mul-clear binary64 a x (round-clear binary64 686279297 (10 ^ 9)) c in
     let B = mul-clear binary64 (b ⊗ x) x (mul-clear binary64 b x (round-clear binary64 254821777 (10 ^ 9)) c) c in
     let D = mul-clear binary64 (d ⊗ x ⊗ x) x (mul-clear binary64 (d ⊗ x) x (mul-clear binary64 d x (round-clear binary64 588989258 (10 ^ 10)) c) c) c in
-    add-clear binary64 (one ⊕ a ⊗ x ⊕ b ⊗ x ⊗ x) (d ⊗ x ⊗ x ⊗ x) (add-clear binary64 (one ⊕ a ⊗ x) (b ⊗ x ⊗ x) (add-clear binary64 one (a ⊗ x) tt A) B) D
+    add-clear binary64 (one64 ⊕ a ⊗ x ⊕ b ⊗ x ⊗ x) (d ⊗ x ⊗ x ⊗ x) (add-clear binary64 (one64 ⊕ a ⊗ x) (b ⊗ x ⊗ x) (add-clear binary64 one64 (a ⊗ x) tt A) B) D
 
 power-clear : (z : ℤ) → T (clear (pow2Of binary64 z))
 unfolding pow2Of
@@ -124,8 +124,8 @@ exp2-clear (fin s m e) h =
     let v = fin s m e in
     let n = floorOf binary64 v in
     let r = polynomialOf (v ⊖ n) ⊗ pow2Of binary64 (toSigned 31 n) in
-    cond-clear (outside32 n) zero (finiteOrZero r) tt
-    (cond-clear (finite r) r zero (mul-clear binary64 (polynomialOf (v ⊖ n)) (pow2Of binary64 (toSigned 31 n)) (polynomial-clear (v ⊖ n) (fraction-clear binary64 v h tt)) (power-clear (toSigned 31 n))) tt)
+    cond-clear (outside32 n) zero64 (finiteOrZero r) tt
+    (cond-clear (finite r) r zero64 (mul-clear binary64 (polynomialOf (v ⊖ n)) (pow2Of binary64 (toSigned 31 n)) (polynomial-clear (v ⊖ n) (fraction-clear binary64 v h tt)) (power-clear (toSigned 31 n))) tt)
 
 -- ---- where it is not above 0, it is 0
 pub exp2-fits : (v : Float) → T (fits binary64 (exp2Of v))
@@ -133,15 +133,15 @@ unfolding exp2Of exp2At
 exp2-fits v =
     let n = floorOf binary64 v in
     let r = polynomialOf (v ⊖ n) ⊗ pow2Of binary64 (toSigned 31 n) in
-    choice (finite v) (exp2At v n) zero
-    (choice (outside32 n) zero (finiteOrZero r) none (choice (finite r) r zero (mul-fits binary64 (polynomialOf (v ⊖ n)) (pow2Of binary64 (toSigned 31 n))) none)) none
+    choice (finite v) (exp2At v n) zero64
+    (choice (outside32 n) zero64 (finiteOrZero r) none (choice (finite r) r zero64 (mul-fits binary64 (polynomialOf (v ⊖ n)) (pow2Of binary64 (toSigned 31 n))) none)) none
   where
-    none : T (fits binary64 zero)
+    none : T (fits binary64 zero64)
     none = unfold fits in tt
 
     choice : (b : Bool) (x y : Float) → T (fits binary64 x) → T (fits binary64 y) → T (fits binary64 (cond b x y))
     choice true x y h k = h
     choice false x y h k = k
 
-pub exp2-zero : (v : Float) → T (fits binary64 v) → T (not (lt zero (exp2Of v))) → exp2Of v ≡ zero
+pub exp2-zero : (v : Float) → T (fits binary64 v) → T (not (lt zero64 (exp2Of v))) → exp2Of v ≡ zero64
 exp2-zero v h l = not-above binary64 (exp2Of v) (exp2-fits v) (exp2-finite v) (exp2-clear v h) l

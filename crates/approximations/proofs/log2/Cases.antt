@@ -16,7 +16,7 @@ use lib.Ieee.Scale.{finite}
 use mir.Syntax.{w64}
 use mir.Val.{SFits, toZ, ofZ}
 use mir.ValLaws.{toZ-ofZ}
-use Rattle.doubles.specs.Arithmetic.{_⊖_, _⊘_, whole, zero}
+use Rattle.doubles.specs.Arithmetic.{_⊖_, _⊘_, fromInt, zero64}
 use Rattle.doubles.specs.Power.{pow2Of, floorLog2}
 use Rattle.approximations.specs.Log2.{log2By, log2At, log2Of, inNormal}
 use Rattle.doubles.proofs.Magnitude.{plain, plain-finite}
@@ -26,15 +26,15 @@ use Rattle.doubles.proofs.Logarithms.{logged, log-digits}
 use Rattle.approximations.proofs.log2.Mantissa.{is-normal, normal-plain, normal-positive, mantissa-is, mantissa-bits}
 use Rattle.approximations.proofs.log2.Differences.{exponent-is}
 
-pub log2-none : (v : Float) → finite v && lt zero v ≡ false → inf true ≡ log2Of v
+pub log2-none : (v : Float) → finite v && lt zero64 v ≡ false → inf true ≡ log2Of v
 unfolding log2Of
 log2-none v e = rw e
 
-pub log2-at : (v : Float) (z : ℤ) → T (finite v && lt zero v) → floorLog2 v +ℤ pos 1 ≡ z → log2By (v ⊘ pow2Of binary64 z) (whole z) ≡ log2Of v
+pub log2-at : (v : Float) (z : ℤ) → T (finite v && lt zero64 v) → floorLog2 v +ℤ pos 1 ≡ z → log2By (v ⊘ pow2Of binary64 z) (fromInt z) ≡ log2Of v
 unfolding log2Of log2At
-log2-at v z t e = rw (is-true (finite v && lt zero v) t, e)
+log2-at v z t e = rw (is-true (finite v && lt zero64 v) t, e)
 
-positive-plain : (v : Float) → T (finite v) → T (lt zero v) → T (plain v)
+positive-plain : (v : Float) → T (finite v) → T (lt zero64 v) → T (plain v)
 unfolding lt
 positive-plain nan f t = f
 positive-plain (inf s) f t = f
@@ -47,12 +47,12 @@ sum r = toZ w64 (ofZ w64 r) +ℤ pos 1
 
 abbrev pub Next : Float → ℤ → Type 0
 Next v r =
-    SFits w64 (sum r) × T (inFloat binary64 (toZ w64 (ofZ w64 (sum r)))) × (log2By (v ⊘ pow2Of binary64 (toZ w64 (ofZ w64 (sum r)))) (whole (toZ w64 (ofZ w64 (sum r)))) ≡ log2Of v)
+    SFits w64 (sum r) × T (inFloat binary64 (toZ w64 (ofZ w64 (sum r)))) × (log2By (v ⊘ pow2Of binary64 (toZ w64 (ofZ w64 (sum r)))) (fromInt (toZ w64 (ofZ w64 (sum r)))) ≡ log2Of v)
 
-pub next : (v : Float) (r : ℤ) → T (fits binary64 v) → T (finite v && lt zero v) → r ≡ floorLog2 v → Next v r
+pub next : (v : Float) (r : ℤ) → T (fits binary64 v) → T (finite v && lt zero64 v) → r ≡ floorLog2 v → Next v r
 next v r h t e =
-    let f = and-l (finite v) (lt zero v) t in
-    let g = and-r (finite v) (lt zero v) t in
+    let f = and-l (finite v) (lt zero64 v) t in
+    let g = and-r (finite v) (lt zero64 v) t in
     let p = positive-plain v f g in
     let l = logged v h f (mag-pos binary64 v h p g) in
     let i = l .0 in
@@ -86,8 +86,8 @@ log2-by-bits v h t =
     let z = minus (suc (52 + j)) 1074 in
     let d = mod-lt b (pow-pos 52) in
     let m : mantissa b ≡ v ⊘ pow2Of binary64 z = ap (ofBits binary64) (mantissa-bits b) ∙ mantissa-is v (b % 2 ^ 52) j h p d (n .2) (n .3) in
-    let e : exponent b ≡ whole z = exponent-is (b / 2 ^ 52) (room (b / 2 ^ 52) j (n .1) (n .2)) ∙ ap (ofInt binary64) (minus-same (b / 2 ^ 52) 1022 (suc (52 + j)) 1074 (sums (b / 2 ^ 52) j (n .1))) in
-    rw (m, e) (log2-at v z (and-i (finite v) (lt zero v) (plain-finite v p) (normal-positive v t)) (ap (λ (y : ℤ). y +ℤ pos 1) (log-digits v (b % 2 ^ 52) j h (plain-finite v p) d (n .3)) ∙ minus-suc (52 + j) 1074))
+    let e : exponent b ≡ fromInt z = exponent-is (b / 2 ^ 52) (room (b / 2 ^ 52) j (n .1) (n .2)) ∙ ap (ofInt binary64) (minus-same (b / 2 ^ 52) 1022 (suc (52 + j)) 1074 (sums (b / 2 ^ 52) j (n .1))) in
+    rw (m, e) (log2-at v z (and-i (finite v) (lt zero64 v) (plain-finite v p) (normal-positive v t)) (ap (λ (y : ℤ). y +ℤ pos 1) (log-digits v (b % 2 ^ 52) j h (plain-finite v p) d (n .3)) ∙ minus-suc (52 + j) 1074))
   where
     room : (f j : ℕ) → f ≡ suc j → j < 2045 → f ≤ 2 ^ 53
     room f j e h = omega arith

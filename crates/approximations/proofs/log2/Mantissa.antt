@@ -14,7 +14,7 @@ use lib.Ieee.Fits.{and-l, and-r, down-pos, up-pos}
 use lib.Ieee.Bits.{ofBits-fits}
 use lib.Ieee.Digits.{minus-val}
 use lib.Ieee.Positive.{first-pos}
-use Rattle.doubles.specs.Arithmetic.{_⊘_, zero as zeroF}
+use Rattle.doubles.specs.Arithmetic.{_⊘_, zero64}
 use Rattle.doubles.specs.Power.{pow2Of}
 use Rattle.approximations.specs.Log2.{inNormal}
 use Rattle.doubles.proofs.Magnitude.{mag, mag-of, mag-val, plain, plain-val, round-at, div-at}
@@ -85,7 +85,7 @@ is-normal v h t =
     few : (j : ℕ) → 52 + j < 2097 → j < 2045
     few j h = omega arith
 
-pub normal-positive : (v : Float) → T (inNormal v) → T (lt zeroF v)
+pub normal-positive : (v : Float) → T (inNormal v) → T (lt zero64 v)
 unfolding le lt eq
 normal-positive nan t = absurd t
 normal-positive (inf true) t = absurd t

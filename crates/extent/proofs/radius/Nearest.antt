@@ -10,10 +10,9 @@ use lib.Ieee.{Float, nan, inf, fin, binary64, up, down, lt, le, eq, fits, isNan,
 use lib.Ieee.Fits.{down-pos, add-fits}
 use lib.Ieee.Nearest.{closest}
 use lib.Ieee.Positive.{num, den}
-use Rattle.doubles.specs.Arithmetic.{_⊕_, _⊗_, whole, one}
-use Rattle.doubles.specs.Arithmetic.{zero as zero64}
+use Rattle.doubles.specs.Arithmetic.{_⊕_, _⊗_, fromInt, one64, zero64}
 use Rattle.doubles.specs.Floor.{shift}
-use Rattle.doubles.specs.Range.{between}
+use Rattle.doubles.specs.Range.{isBetween}
 use Rattle.doubles.proofs.NearestWhole.{sum-nearest}
 use Rattle.doubles.proofs.Rounding.{closest-near}
 use Rattle.doubles.proofs.WholePatterns.{whole-bits}
@@ -27,7 +26,7 @@ nearestWhole v = closest (32768 * num v) (den v)
 
 -- the sum of the code
 abbrev shifted : Float → Float
-shifted v = v ⊗ whole (pos 32768) ⊕ shift
+shifted v = v ⊗ fromInt (pos 32768) ⊕ shift
 
 -- it is no NaN, and the lowest digits of its pattern are that number
 abbrev pub Shows : Float → Type 0
@@ -36,7 +35,7 @@ Shows v = T (not (isNan (shifted v))) × (toBits binary64 (shifted v) % 65536 �
 lowest : (b q : ℕ) → q ≤ 32768 → b ≡ 1075 * 2 ^ 52 + (2 ^ 51 + q) → b % 65536 ≡ q
 lowest b q h e = omega arith
 
-module _ (s : Bool) (m : ℕ) (e : ℤ) (h : T (fits binary64 (fin s m e))) (b : T (between zero64 one (fin s m e))) where
+module _ (s : Bool) (m : ℕ) (e : ℤ) (h : T (fits binary64 (fin s m e))) (b : T (isBetween zero64 one64 (fin s m e))) where
   abbrev v : Float
   v = fin s m e
 
@@ -48,7 +47,7 @@ module _ (s : Bool) (m : ℕ) (e : ℤ) (h : T (fits binary64 (fin s m e))) (b :
       le-of-suc-le-suc (lt-of-not-le (λ (g : 32769 ≤ nearestWhole v). let l = mul-le-mul-right (down e) g in lt-irrefl 0 (omega arith)))
 
   -- where the sign is set, v is -0
-  none : (s : Bool) → T (between zero64 one (fin s m e)) → T s → 32768 * (m * up e) ≡ 0
+  none : (s : Bool) → T (isBetween zero64 one64 (fin s m e)) → T s → 32768 * (m * up e) ≡ 0
   none true b t = let z = minus-zero m e b in omega arith
   none false b t = absurd t
 
@@ -57,21 +56,21 @@ module _ (s : Bool) (m : ℕ) (e : ℤ) (h : T (fits binary64 (fin s m e))) (b :
       let k = at-most-one s m e b in
       let D = down-pos e in
       let l = nearest-whole-le in
-      let x = sum-nearest (v ⊗ whole (pos 32768)) s (32768 * (m * up e)) (down e) D (product-exact s m e h b) (none s b) (omega arith) in
-      let p = whole-bits (shifted v) (2 ^ 51 + nearestWhole v) (omega arith) (add-fits binary64 (v ⊗ whole (pos 32768)) shift) x in
+      let x = sum-nearest (v ⊗ fromInt (pos 32768)) s (32768 * (m * up e)) (down e) D (product-exact s m e h b) (none s b) (omega arith) in
+      let p = whole-bits (shifted v) (2 ^ 51 + nearestWhole v) (omega arith) (add-fits binary64 (v ⊗ fromInt (pos 32768)) shift) x in
       (p .1, lowest _ (nearestWhole v) l (p .0))
 
-pub component-shows : (v : Float) → T (fits binary64 v) → T (between zero64 one v) → Shows v
+pub component-shows : (v : Float) → T (fits binary64 v) → T (isBetween zero64 one64 v) → Shows v
 component-shows nan h b = absurd (unfold le in unfold lt in unfold eq in b)
 component-shows (inf true) h b = absurd (unfold le in unfold lt in unfold eq in b)
 component-shows (inf false) h b = absurd (unfold le in unfold lt in unfold eq in b)
 component-shows (fin s m e) h b = shows s m e h b
 
 -- ---- `quantised` by the test of the code
-pub quantised-in : (v : Float) → between zero64 one v ≡ true → quantised v ≡ min (nearestWhole v) 32767
+pub quantised-in : (v : Float) → isBetween zero64 one64 v ≡ true → quantised v ≡ min (nearestWhole v) 32767
 unfolding quantised
 quantised-in v t = ap (λ (b : Bool). cond b (min (nearestWhole v) 32767) 0) (sym (component-is v) ∙ t)
 
-pub quantised-out : (v : Float) → between zero64 one v ≡ false → quantised v ≡ 0
+pub quantised-out : (v : Float) → isBetween zero64 one64 v ≡ false → quantised v ≡ 0
 unfolding quantised
 quantised-out v t = ap (λ (b : Bool). cond b (min (nearestWhole v) 32767) 0) (sym (component-is v) ∙ t)

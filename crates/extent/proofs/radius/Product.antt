@@ -10,9 +10,8 @@ use lib.Pow.{pow-lt, pow-add}
 use lib.Ieee.{Float, fin, Format, binary64, emax, low, up, down, round, mul, lt, le, eq, fits, ofInt}
 use lib.Ieee.Exact.{HasValue, round-exact}
 use lib.Ieee.Fits.{down-pos, and-l, and-r}
-use Rattle.doubles.specs.Arithmetic.{_⊗_, whole, one}
-use Rattle.doubles.specs.Arithmetic.{zero as zero64}
-use Rattle.doubles.specs.Range.{between}
+use Rattle.doubles.specs.Arithmetic.{_⊗_, fromInt, one64, zero64}
+use Rattle.doubles.specs.Range.{isBetween}
 use Rattle.doubles.proofs.Magnitude.{small-enough, low-enough, unit-pow}
 use Rattle.extent.proofs.Tests.{at-least}
 
@@ -42,20 +41,20 @@ module _ (f : Format) (s : Bool) (m : ℕ) (e : ℤ) (h : T (fits f (fin s m e))
       (mul-right-comm (m * up e) (2 ^ p) (2 ^ l) ∙ ap (λ (z : ℕ). z * 2 ^ p) in-units ∙ mul-right-comm (m * 2 ^ j) (down e) (2 ^ p) ∙ ap (λ (z : ℕ). z * down e) (sym scaled))
 
 -- ---- v from 0 to 1: its fraction is m * up e / down e, and it is +0 or -0 where the sign is set
-pub minus-zero : (m : ℕ) (e : ℤ) → T (between zero64 one (fin true m e)) → m * up e ≡ 0
+pub minus-zero : (m : ℕ) (e : ℤ) → T (isBetween zero64 one64 (fin true m e)) → m * up e ≡ 0
 unfolding le lt eq
 minus-zero m e h =
     let a = 0 * 1 * down e in
     let b = m * up e * 1 in
-    let q = eqb→eq a b (and-l (eqb a b) (false || eqb a 0) (and-l (eqb a b && (false || eqb a 0)) (le (fin true m e) one) h)) in
+    let q = eqb→eq a b (and-l (eqb a b) (false || eqb a 0) (and-l (eqb a b && (false || eqb a 0)) (le (fin true m e) one64) h)) in
     omega arith
 
-pub at-most-one : (s : Bool) (m : ℕ) (e : ℤ) → T (between zero64 one (fin s m e)) → m * up e ≤ down e
+pub at-most-one : (s : Bool) (m : ℕ) (e : ℤ) → T (isBetween zero64 one64 (fin s m e)) → m * up e ≤ down e
 unfolding le lt eq
 at-most-one true m e h = le-trans (le-of-eq (minus-zero m e h)) zero-le
-at-most-one false m e h = let l = at-least (m * up e * 1) (1 * 1 * down e) true (and-r (le zero64 (fin false m e)) (le (fin false m e) one) h) in omega arith
+at-most-one false m e h = let l = at-least (m * up e * 1) (1 * 1 * down e) true (and-r (le zero64 (fin false m e)) (le (fin false m e) one64) h) in omega arith
 
-scale-is : whole (pos 32768) ≡ fin false 1 (pos 15)
+scale-is : fromInt (pos 32768) ≡ fin false 1 (pos 15)
 unfolding ofInt round
 scale-is = refl
 
@@ -64,8 +63,8 @@ unfolding mul
 product-at true m e = refl
 product-at false m e = refl
 
-pub product-exact : (s : Bool) (m : ℕ) (e : ℤ) → T (fits binary64 (fin s m e)) → T (between zero64 one (fin s m e)) → HasValue (fin s m e ⊗ whole (pos 32768)) s (32768 * (m * up e)) (down e)
+pub product-exact : (s : Bool) (m : ℕ) (e : ℤ) → T (fits binary64 (fin s m e)) → T (isBetween zero64 one64 (fin s m e)) → HasValue (fin s m e ⊗ fromInt (pos 32768)) s (32768 * (m * up e)) (down e)
 product-exact s m e h b =
     let i = ap (λ (z : Float). fin s m e ⊗ z) scale-is ∙ product-at s m e ∙ ap (round binary64 s (m * up e * 32768)) (mul-one (down e)) in
     let x = scaled-exact binary64 s m e h (at-most-one s m e b) 15 (lit≤ tt) in
-    subst (λ (n : ℕ). HasValue (fin s m e ⊗ whole (pos 32768)) s n (down e)) (mul-comm (m * up e) 32768) (subst (λ (z : Float). HasValue z s (m * up e * 32768) (down e)) (sym i) x)
+    subst (λ (n : ℕ). HasValue (fin s m e ⊗ fromInt (pos 32768)) s n (down e)) (mul-comm (m * up e) 32768) (subst (λ (z : Float). HasValue z s (m * up e * 32768) (down e)) (sym i) x)

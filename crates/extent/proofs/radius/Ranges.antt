@@ -4,13 +4,13 @@ use Prim.Native.Nat.{ℕ, _+_, _/_, _≤_, min}
 use native.Mathlib.Omega.{arith}
 use mathlib.Core.Bool.{Bool, true, false, cond}
 use lib.Ieee.{Float, nan, inf, fin, lt, le, eq}
-use Rattle.doubles.specs.Arithmetic.{zero, one}
-use Rattle.doubles.specs.Range.{between}
+use Rattle.doubles.specs.Arithmetic.{zero64, one64}
+use Rattle.doubles.specs.Range.{isBetween}
 use Rattle.extent.specs.declared.Extent.{Extent}
 use Rattle.extent.specs.Extent.{component, quantised, meanOf}
 
 -- a number from 0 to 1 is finite
-pub component-is : (v : Float) → between zero one v ≡ component v
+pub component-is : (v : Float) → isBetween zero64 one64 v ≡ component v
 unfolding le lt eq
 component-is nan = refl
 component-is (inf true) = refl

@@ -6,14 +6,13 @@ use mathlib.Core.Bool.{true, false, cond}
 use mathlib.Core.List.{List, [], _∷_}
 use lib.Ieee.{Float, nan, le}
 use lib.ListN.{getD}
-use Rattle.doubles.specs.Arithmetic.{_⊕_, _⊖_, _⊗_, _⊘_, dec, one}
-use Rattle.doubles.specs.Arithmetic.{zero as zero64}
+use Rattle.doubles.specs.Arithmetic.{_⊕_, _⊖_, _⊗_, _⊘_, dec, one64, zero64}
 use Rattle.doubles.specs.Range.{clampTo}
 use Rattle.extent.specs.Extent.{firstKnot, laterKnots, knotAt, radiusBetween, radiusFrom, radiusOf}
 
 -- ---- the tables
 abbrev pub E : List Float
-E = zero64 ∷ dec 2 1 ∷ dec 5 1 ∷ dec 75 2 ∷ one ∷ []
+E = zero64 ∷ dec 2 1 ∷ dec 5 1 ∷ dec 75 2 ∷ one64 ∷ []
 
 abbrev pub S : List Float
 S = zero64 ∷ dec 75 3 ∷ dec 25 2 ∷ dec 45 2 ∷ dec 7 1 ∷ []
@@ -32,7 +31,7 @@ between-is (suc (suc (suc (suc i)))) h s = absurd (omega arith)
 abbrev pub byKnots : Float → Float
 byKnots s = cond (le s zero64) zero64 (radiusFrom firstKnot laterKnots s)
 
-pub clamped : (x s : Float) → s ≡ clampTo zero64 one x → byKnots s ≡ radiusOf x
+pub clamped : (x s : Float) → s ≡ clampTo zero64 one64 x → byKnots s ≡ radiusOf x
 unfolding radiusOf
 clamped x s h = ap byKnots h
 
@@ -53,8 +52,8 @@ module _ (s : Float) where
         fourth-is d = rw (a, b, c, d)
 
         module _ (d : le s (dec 75 2) ≡ false) where
-          pub fifth-is : le s one ≡ true → byKnots s ≡ radiusBetween (knotAt 3) (knotAt 4) s
+          pub fifth-is : le s one64 ≡ true → byKnots s ≡ radiusBetween (knotAt 3) (knotAt 4) s
           fifth-is e = rw (a, b, c, d, e)
 
-          pub last-is : le s one ≡ false → byKnots s ≡ dec 7 1
+          pub last-is : le s one64 ≡ false → byKnots s ≡ dec 7 1
           last-is e = rw (a, b, c, d, e)

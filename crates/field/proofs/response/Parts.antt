@@ -5,7 +5,7 @@ use mathlib.Core.List.{List}
 use native.Mathlib.Nat.{le-trans}
 use native.Mathlib.Omega.{arith}
 use Rattle.field.specs.declared.Pick.{Pick}
-use Rattle.field.specs.Responses.{Parted, pickEnd}
+use Rattle.field.specs.Steps.Flat.{Parted, pickEnd}
 
 -- of fewer coordinates
 pub fewer : (at parts : List ℕ) (n k : ℕ) → k ≤ n → Parted at parts n → Parted at parts k

@@ -10,19 +10,20 @@ use lib.Ieee.{Float, nan}
 use lib.Ieee.Scale.{finite}
 use lib.ListN.{length, getD, take}
 use Rattle.field.specs.Knots.{steps}
-use Rattle.field.specs.Responses.{run, pickAdded, groupPick, layerPick, pickEnd, responseAdded, responded, respondedZ, Parted, Grouped}
+use Rattle.field.specs.Responses.{layerPick}
+use Rattle.field.specs.Steps.Flat.{iterate, pickAdded, groupPick, pickEnd, responseAdded, responded, respondedZ, Parted, Grouped}
 use Rattle.field.proofs.response.Picks.{part-pick-end}
 use Rattle.field.proofs.response.Parts.{fewer}
 
-pub run-more : (n : ℕ) (g : ℕ → List Float → List Float) (out : List Float) → run (n + 1) g out ≡ g n (run n g out)
-unfolding run
+pub run-more : (n : ℕ) (g : ℕ → List Float → List Float) (out : List Float) → iterate (n + 1) g out ≡ g n (iterate n g out)
+unfolding iterate
 run-more n g out = rw add-one
 
 module _ (at parts : List ℕ) (v : List Float) (groups : List ℕ) where
   -- ---- one group more
   module _ (base : ℕ) (u : Float) (out : List Float) where
     pub response-none : responseAdded base at parts v groups 0 u out ≡ out
-    unfolding responseAdded run
+    unfolding responseAdded iterate
     response-none = refl
 
     pub response-more : (g : ℕ) → responseAdded base at parts v groups (g + 1) u out ≡ pickAdded base at parts (groupPick v groups u g) (responseAdded base at parts v groups g u out)
@@ -49,7 +50,7 @@ module _ (at parts : List ℕ) (v : List Float) (groups : List ℕ) where
   -- ---- one sample more
   module _ (count : ℕ) (out : List Float) where
     pub responded-none : responded at parts v groups count 0 out ≡ out
-    unfolding responded run
+    unfolding responded iterate
     responded-none = refl
 
     pub responded-more : (s : ℕ) → responded at parts v groups count (s + 1) out ≡ responseAdded (s * 24) at parts v groups count (steps 19 s) (responded at parts v groups count s out)
@@ -59,7 +60,7 @@ module _ (at parts : List ℕ) (v : List Float) (groups : List ℕ) where
 -- ---- on Z
 module _ (at parts : List ℕ) (zs : List Float) (depth : ℕ) where
   pub responded-z-none : (out : List Float) → respondedZ at parts zs depth 0 out ≡ out
-  unfolding respondedZ run
+  unfolding respondedZ iterate
   responded-z-none out = refl
 
   pub responded-z-more : (out : List Float) (s : ℕ) → respondedZ at parts zs depth (s + 1) out ≡ pickAdded (s * 24) at parts (layerPick (take depth zs) (steps 7 s)) (respondedZ at parts zs depth s out)

@@ -10,19 +10,20 @@ use lib.ListN.{length, getD, take, set, length-take, drop-of-length-le}
 use lib.Seq.{slice}
 use Rattle.lists.proofs.Loops.{slice-more}
 use Rattle.doubles.specs.Arithmetic.{_⊕_}
-use Rattle.field.specs.Responses.{below, addedAt}
+use Rattle.field.specs.Responses.{countBelow}
+use Rattle.field.specs.Steps.Flat.{addedAt}
 
 pub slice-past : {A : Type 0} (i n : ℕ) (l : List A) → n ≤ i → slice i n l ≡ []
 slice-past i n l h = drop-of-length-le (take n l) {i = i} (rw length-take (omega arith))
 
 -- ---- the first place whose coordinate is not below u
-module _ (u : Float) (v : List Float) (a i b : ℕ) (h : i < b) (k : b ≤ length v) (inv : i + below u (slice i b v) ≡ a + below u (slice a b v)) where
+module _ (u : Float) (v : List Float) (a i b : ℕ) (h : i < b) (k : b ≤ length v) (inv : i + countBelow u (slice i b v) ≡ a + countBelow u (slice a b v)) where
   -- one more is below
-  pub below-more : lt (getD v i nan) u ≡ true → (i + 1) + below u (slice (i + 1) b v) ≡ a + below u (slice a b v)
-  below-more q = add-assoc i 1 (below u (slice (i + 1) b v)) ∙ (rw (slice-more i b v nan h k, q) at inv)
+  pub below-more : lt (getD v i nan) u ≡ true → (i + 1) + countBelow u (slice (i + 1) b v) ≡ a + countBelow u (slice a b v)
+  below-more q = add-assoc i 1 (countBelow u (slice (i + 1) b v)) ∙ (rw (slice-more i b v nan h k, q) at inv)
 
   -- the next is not
-  pub below-found : lt (getD v i nan) u ≡ false → i ≡ a + below u (slice a b v)
+  pub below-found : lt (getD v i nan) u ≡ false → i ≡ a + countBelow u (slice a b v)
   below-found q = sym (add-zero i) ∙ (rw (slice-more i b v nan h k, q) at inv)
 
 -- ---- a weight added at each place of a list

@@ -6,8 +6,8 @@ use mathlib.Core.List.{List, _++_}
 use native.Mathlib.Omega.{arith}
 use lib.Ieee.{Float, nan}
 use lib.ListN.{getD, drop}
-use Rattle.doubles.specs.Arithmetic.{_⊗_, one}
-use Rattle.gains.specs.declared.Centre.{Centre}
+use Rattle.doubles.specs.Arithmetic.{_⊗_, one64}
+use Rattle.layout.specs.declared.Centre.{Centre}
 use Rattle.gains.specs.declared.Wall.{Wall}
 use Rattle.gains.specs.declared.Wall.the-variants.{X, Y, Z}
 use Rattle.extent.specs.Kernel.{exponentOf}
@@ -57,7 +57,7 @@ module _ (store : List Float) (base n : ℕ) (c : Centre) (r : Float) (x y z : L
       ap (λ (v : Float). endedBy ends v (c .y) false x z) q
       ∙ by-row (endRow 1482 far) ends (wallAt far) (c .y) false x z e (λ (k : ℕ). ap (λ (v : Wall). endProduct v (placeRows store base n k) c r (getD x k nan) (getD y k nan) (getD z k nan)) p)
 
-  pub by-Z : (d : Float) (ends : ℕ) → wall ≡ Z d → ends ≡ base + 1485 * n → endedBy ends one (c .z) true x y ≡ shapedBy
+  pub by-Z : (d : Float) (ends : ℕ) → wall ≡ Z d → ends ≡ base + 1485 * n → endedBy ends one64 (c .z) true x y ≡ shapedBy
   unfolding endProduct
   by-Z d ends p e =
-      by-row 1485 ends one (c .z) true x y e (λ (k : ℕ). ap (λ (v : Wall). endProduct v (placeRows store base n k) c r (getD x k nan) (getD y k nan) (getD z k nan)) p)
+      by-row 1485 ends one64 (c .z) true x y e (λ (k : ℕ). ap (λ (v : Wall). endProduct v (placeRows store base n k) c r (getD x k nan) (getD y k nan) (getD z k nan)) p)

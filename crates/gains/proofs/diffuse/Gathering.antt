@@ -9,15 +9,14 @@ use native.Mathlib.Omega.{arith}
 use lib.Ieee.{Float, nan, lt}
 use lib.ListN.{length, getD, set, drop}
 use lib.Seq.{getD-set-same, getD-set-other}
-use Rattle.doubles.specs.Arithmetic.{_⊘_}
-use Rattle.doubles.specs.Arithmetic.{zero as zero64}
+use Rattle.doubles.specs.Arithmetic.{_⊘_, zero64}
 use Rattle.doubles.proofs.Exponents.{split}
 use Rattle.approximations.specs.Exp2.{exp2Of}
 use Rattle.approximations.specs.Log2.{log2Of}
 use Rattle.approximations.specs.Powers.{mapFirst}
 use Rattle.approximations.proofs.FirstMapped.{first-mapped}
 use Rattle.gains.specs.Lookup.{channels}
-use Rattle.gains.specs.Gathered.{aboveBefore, Gathered, scattered}
+use Rattle.gains.specs.Steps.Gathered.{aboveBefore, Gathered, scattered}
 use Rattle.gains.proofs.diffuse.Channels.{channels-cong}
 use Rattle.gains.proofs.diffuse.Steps.{powerOf}
 

@@ -5,7 +5,7 @@ use mathlib.Core.Bool.{cond}
 use mathlib.Core.List.{List, _++_}
 use lib.Ieee.{Float, nan, lt}
 use lib.ListN.{getD, drop}
-use Rattle.doubles.specs.Arithmetic.{_⊘_, zero}
+use Rattle.doubles.specs.Arithmetic.{_⊘_, zero64}
 use Rattle.approximations.specs.Exp2.{exp2Of}
 use Rattle.approximations.specs.Log2.{log2Of}
 use Rattle.gains.specs.Lookup.{channels}
@@ -13,7 +13,7 @@ use Rattle.gains.proofs.diffuse.Channels.{channels-cong, getD-channels,
 
 -- field ^ (1 / e)
 abbrev pub powerOf : Float → Float → Float
-powerOf field e = cond (lt zero field) (exp2Of (log2Of field ⊘ e)) zero
+powerOf field e = cond (lt zero64 field) (exp2Of (log2Of field ⊘ e)) zero64
 
 -- E k is written to e, F (E k) k to out, and then R of it
 pub in-steps : (n : ℕ) (E : ℕ → Float) (F : Float → ℕ → Float) (R : Float → Float) (e rest old mid out : List Float) → e ≡ channels n E ++ rest → mid ≡ channels n (λ (k : ℕ). F (getD e k nan) k) ++ drop n old → out ≡ channels n (λ (k : ℕ). R (getD mid k nan)) ++ drop n mid → out ≡ channels n (λ (k : ℕ). R (F (E k) k)) ++ drop n old

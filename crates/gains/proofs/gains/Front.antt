@@ -8,8 +8,8 @@ use lib.Ieee.{Float, nan, Format, add, mul}
 use lib.ListN.{length, take, drop, set, getD, length-map}
 use lib.Seq.{take-suc, getD-take, length-take-le, ext-getD}
 use Rattle.doubles.specs.Norm.{foldSquares}
-use Rattle.gains.specs.Lookup.{listed}
-use Rattle.gains.specs.Gains.{zipped}
+use Rattle.gains.specs.Lookup.{tabulate}
+use Rattle.lists.specs.Lists.{zipWith}
 use Rattle.gains.proofs.lookup.Listing.{length-listed, getD-listed}
 use Rattle.gains.proofs.lookup.Writing.{Written, written-none, written-more, written-done}
 use Rattle.gains.proofs.diffuse.Channels.{written-reads}
@@ -21,10 +21,10 @@ pub record Replaced (n : ℕ) (l base out : List Float) (k : ℕ) : Type 0 where
   pub room : n ≤ length base
   pub written : Written (λ (i : ℕ). getD l i nan) base out k
 
-listed-getD : (l : List Float) (n : ℕ) → length l ≡ n → listed (λ (i : ℕ). getD l i nan) n ≡ l
+listed-getD : (l : List Float) (n : ℕ) → length l ≡ n → tabulate (λ (i : ℕ). getD l i nan) n ≡ l
 listed-getD l n e =
     let long = length-listed (λ (i : ℕ). getD l i nan) n in
-    ext-getD nan (listed (λ (i : ℕ). getD l i nan) n) l (omega arith) (λ (i : ℕ) (h : i < length (listed (λ (i : ℕ). getD l i nan) n)). getD-listed (λ (i : ℕ). getD l i nan) n i nan (omega arith))
+    ext-getD nan (tabulate (λ (i : ℕ). getD l i nan) n) l (omega arith) (λ (i : ℕ) (h : i < length (tabulate (λ (i : ℕ). getD l i nan) n)). getD-listed (λ (i : ℕ). getD l i nan) n i nan (omega arith))
 
 module _ (n : ℕ) (l base : List Float) where
   pub replace-none : length l ≡ n → n ≤ length base → Replaced n l base base 0
@@ -41,7 +41,7 @@ module _ (n : ℕ) (l base : List Float) where
     replace-done h =
         let e : k ≡ n = omega arith in
         written-done _ base out k (w .written)
-        ∙ ap (λ (m : ℕ). listed (λ (i : ℕ). getD l i nan) m ++ drop m base) e
+        ∙ ap (λ (m : ℕ). tabulate (λ (i : ℕ). getD l i nan) m ++ drop m base) e
         ∙ ap (λ (xs : List Float). xs ++ drop n base) (listed-getD l n (w .asked))
 
 -- ---- each entry by a function of itself
@@ -62,27 +62,27 @@ module _ (g : Float → Float) (n : ℕ) (base : List Float) where
 
 -- ---- each entry by a function of itself and of the entry of another list
 module _ (g : Float → Float → Float) where
-  pub zipped-long : (xs ys : List Float) (n : ℕ) → length xs ≡ n → length ys ≡ n → length (zipped g xs ys) ≡ n
+  pub zipped-long : (xs ys : List Float) (n : ℕ) → length xs ≡ n → length ys ≡ n → length (zipWith g xs ys) ≡ n
   zipped-long [] ys n p q = p
   zipped-long (x ∷ xs) [] n p q = absurd (omega arith)
   zipped-long (x ∷ xs) (y ∷ ys) zero p q = absurd (omega arith)
   zipped-long (x ∷ xs) (y ∷ ys) (suc n) p q = ap suc (zipped-long xs ys n (omega arith) (omega arith))
 
-  pub getD-zipped : (xs ys : List Float) (k : ℕ) (d : Float) → k < length xs → k < length ys → getD (zipped g xs ys) k d ≡ g (getD xs k d) (getD ys k d)
+  pub getD-zipped : (xs ys : List Float) (k : ℕ) (d : Float) → k < length xs → k < length ys → getD (zipWith g xs ys) k d ≡ g (getD xs k d) (getD ys k d)
   getD-zipped [] ys k d p q = absurd (omega arith)
   getD-zipped (x ∷ xs) [] k d p q = absurd (omega arith)
   getD-zipped (x ∷ xs) (y ∷ ys) zero d p q = refl
   getD-zipped (x ∷ xs) (y ∷ ys) (suc k) d p q = getD-zipped xs ys k d (omega arith) (omega arith)
 
   module _ (n : ℕ) (xs base : List Float) where
-    pub zip-none : n ≤ length xs → n ≤ length base → Replaced n (zipped g (take n xs) (take n base)) base base 0
-    zip-none p q = replace-none n (zipped g (take n xs) (take n base)) base (zipped-long (take n xs) (take n base) n (length-take-le n xs p) (length-take-le n base q)) q
+    pub zip-none : n ≤ length xs → n ≤ length base → Replaced n (zipWith g (take n xs) (take n base)) base base 0
+    zip-none p q = replace-none n (zipWith g (take n xs) (take n base)) base (zipped-long (take n xs) (take n base) n (length-take-le n xs p) (length-take-le n base q)) q
 
-    pub zip-more : (out : List Float) (k : ℕ) → n ≤ length xs → Replaced n (zipped g (take n xs) (take n base)) base out k → k < n → Replaced n (zipped g (take n xs) (take n base)) base (set out k (g (getD xs k nan) (getD out k nan))) (k + 1)
+    pub zip-more : (out : List Float) (k : ℕ) → n ≤ length xs → Replaced n (zipWith g (take n xs) (take n base)) base out k → k < n → Replaced n (zipWith g (take n xs) (take n base)) base (set out k (g (getD xs k nan) (getD out k nan))) (k + 1)
     zip-more out k p w h =
         let e = length-take-le n xs p in
         let f = length-take-le n base (w .room) in
-        replace-more n (zipped g (take n xs) (take n base)) base out k w (g (getD xs k nan) (getD out k nan)) h
+        replace-more n (zipWith g (take n xs) (take n base)) base out k w (g (getD xs k nan) (getD out k nan)) h
         (rw (written-reads _ base out k nan (w .written), getD-zipped (take n xs) (take n base) k nan (omega arith) (omega arith), getD-take n xs k nan h, getD-take n base k nan h) refl)
 
 -- ---- the squares added up

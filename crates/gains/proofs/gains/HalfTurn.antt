@@ -10,8 +10,7 @@ use lib.Dec.{T, ltb, eqb, lit<, lit≤}
 use lib.Ieee.{Float, nan, inf, fin, up, down, round, mul, div, lt, le, eq, ofInt}
 use lib.Ieee.Fits.{down-pos}
 use lib.Ieee.Positive.{num, den, den-pos}
-use Rattle.doubles.specs.Arithmetic.{_⊗_, _⊘_, one}
-use Rattle.doubles.specs.Arithmetic.{zero as zero64}
+use Rattle.doubles.specs.Arithmetic.{_⊗_, _⊘_, one64, zero64}
 use Rattle.approximations.specs.Circular.{sineOf, cosineOf}
 use Rattle.doubles.specs.Range.{clampTo}
 use Rattle.doubles.proofs.Signs.{notNeg}
@@ -63,7 +62,7 @@ most = fin false 3602879701896397 (negsuc 55)
 abbrev least : Float
 least = fin false 7378697629483821 (negsuc 67)
 
-PI-one : PI ⊗ one ≡ PI
+PI-one : PI ⊗ one64 ≡ PI
 unfolding mul round
 PI-one = refl
 
@@ -75,21 +74,21 @@ two-above : T (lt zero64 two)
 unfolding lt
 two-above = tt
 
-twenty-most : twenty ⊗ most ≡ one
+twenty-most : twenty ⊗ most ≡ one64
 unfolding mul round
 twenty-most = refl
 
 -- ---- the angle, for an a from 0 to 1
-half-turn-within : (a : Float) → Within a one → Within (PI ⊗ a ⊘ two) half
+half-turn-within : (a : Float) → Within a one64 → Within (PI ⊗ a ⊘ two) half
 half-turn-within a w =
-    let x = product-within PI a one PI tt (w .0) tt tt (w .1) PI-one in
+    let x = product-within PI a one64 PI tt (w .0) tt tt (w .1) PI-one in
     quotient-within two (PI ⊗ a) PI half tt two-above (x .0) tt tt (x .1) PI-two
 
 -- from 0 to y
 from0 : (t y : Float) → T (plain y) → Within t y → T (le zero64 t) × T (le t y)
 from0 t y q w = (le-of zero64 t tt (w .0) (le-trans (le-of-eq (zero-mul (den t))) zero-le), le-of t y (w .0) q (w .1))
 
-angle-range : (a : Float) → Within a one → T (le zero64 (PI ⊗ a ⊘ two)) × T (le (PI ⊗ a ⊘ two) half)
+angle-range : (a : Float) → Within a one64 → T (le zero64 (PI ⊗ a ⊘ two)) × T (le (PI ⊗ a ⊘ two) half)
 angle-range a w = from0 (PI ⊗ a ⊘ two) half tt (half-turn-within a w)
 
 -- ---- the blend's a: 20 × radius, clamped
@@ -106,11 +105,11 @@ radius-plain (fin true m e) h k =
     absurd (below-never (m * up e * down (negsuc 67)) (7378697629483821 * down e) (mul-pos p (down-pos e)) h)
 radius-plain (fin false m e) h k = tt
 
-clamped-within : (x : Float) → Within x one → Within (clampTo zero64 one x) one
+clamped-within : (x : Float) → Within x one64 → Within (clampTo zero64 one64 x) one64
 unfolding clampTo
-clamped-within x w = go (lt x zero64) (lt one x)
+clamped-within x w = go (lt x zero64) (lt one64 x)
   where
-    go : (b c : Bool) → Within (cond b zero64 (cond c one x)) one
+    go : (b c : Bool) → Within (cond b zero64 (cond c one64 x)) one64
     go true c = (tt, lit≤ tt)
     go false true = (tt, lit≤ tt)
     go false false = w
@@ -124,15 +123,15 @@ Weights Field = T true
 -- with PI, H and the other constants as literals
 module _ (r : Float) (h : lt r least ≡ false) (k : le r most ≡ true) where
   abbrev part : Float
-  part = clampTo zero64 one (twenty ⊗ r)
+  part = clampTo zero64 one64 (twenty ⊗ r)
 
   abbrev angle : Float
   angle = PI ⊗ part ⊘ two
 
-  part-within : Within part one
+  part-within : Within part one64
   part-within =
       let p = radius-plain r h k in
-      clamped-within (twenty ⊗ r) (product-within twenty r most one tt p tt tt (under-of r most p tt (yes k)) twenty-most)
+      clamped-within (twenty ⊗ r) (product-within twenty r most one64 tt p tt tt (under-of r most p tt (yes k)) twenty-most)
 
   both-weights : T (notNeg (fin false 1 (negsuc 0) ⊗ cosineOf angle)) × T (notNeg (fin false 1 (negsuc 0) ⊗ sineOf angle))
   unfolding round

@@ -8,20 +8,21 @@ use lib.Ieee.{Float, binary64, lt}
 use lib.Ieee.Scale.{finite}
 use lib.ListN.{length, take, drop, length-map}
 use lib.Seq.{take-at, drop-at}
-use Rattle.doubles.specs.Arithmetic.{_⊕_, _⊗_, _⊘_, dec, zero}
+use Rattle.doubles.specs.Arithmetic.{_⊕_, _⊗_, _⊘_, dec, zero64}
 use Rattle.doubles.specs.Norm.{sumSquares}
 use Rattle.doubles.specs.Root.{sqrtOf}
 use Rattle.gains.specs.declared.Blend.{Blend}
 use Rattle.gains.specs.declared.Blend.the-variants.{Point, Both, Field}
-use Rattle.gains.specs.Gains.{normalizedOf, blended, zipped}
+use Rattle.gains.specs.Gains.{normalizedOf, blended}
+use Rattle.lists.specs.Lists.{zipWith}
 
 -- s: the sum, b: it is finite, r: its root
 module _ (v : List Float) (s : Float) (b : Bool) (e : s ≡ sumSquares v) (f : b ≡ finite s) where
-  pub normalized-yes : (r : Float) → b && lt zero s ≡ true → r ≡ sqrtOf binary64 s → map (λ (x : Float). x ⊘ r) v ≡ normalizedOf v
+  pub normalized-yes : (r : Float) → b && lt zero64 s ≡ true → r ≡ sqrtOf binary64 s → map (λ (x : Float). x ⊘ r) v ≡ normalizedOf v
   unfolding normalizedOf
   normalized-yes r h q = rw (← e, ← f, h, q)
 
-  pub normalized-no : b && lt zero s ≡ false → map (λ (x : Float). zero) v ≡ normalizedOf v
+  pub normalized-no : b && lt zero64 s ≡ false → map (λ (x : Float). zero64) v ≡ normalizedOf v
   unfolding normalizedOf
   normalized-no h = rw (← e, ← f, h)
 
@@ -34,7 +35,7 @@ same-number z (x ∷ xs) (y ∷ ys) h = ap (λ (l : List Float). z ∷ l) (same-
 
 pub normalized-length : (v : List Float) → length (normalizedOf v) ≡ length v
 unfolding normalizedOf
-normalized-length v = go (finite (sumSquares v) && lt zero (sumSquares v)) _ _
+normalized-length v = go (finite (sumSquares v) && lt zero64 (sumSquares v)) _ _
   where
     go : (b : Bool) (f g : Float → Float) → length (cond b (map f v) (map g v)) ≡ length v
     go true f g = length-map v f
@@ -50,7 +51,7 @@ module _ (w : Blend) (points field : List Float) where
   unfolding blended
   blended-point e = rw e
 
-  pub blended-both : (a b : Float) → w ≡ Both a b → normalizedOf (zipped (λ (p d : Float). a ⊗ p ⊕ b ⊗ d) points field) ≡ blended w points field
+  pub blended-both : (a b : Float) → w ≡ Both a b → normalizedOf (zipWith (λ (p d : Float). a ⊗ p ⊕ b ⊗ d) points field) ≡ blended w points field
   unfolding blended
   blended-both a b e = rw e
 

@@ -5,7 +5,7 @@ use mathlib.Core.Bool.{Bool, true, false}
 use mathlib.Core.List.{List, _++_}
 use lib.Ieee.{Float}
 use lib.ListN.{length, take, drop}
-use Rattle.gains.specs.declared.Centre.{Centre}
+use Rattle.layout.specs.declared.Centre.{Centre}
 use Rattle.gains.specs.Lookup.{channels}
 use Rattle.gains.specs.Diffuse.{diffuseOf}
 use Rattle.gains.specs.Gains.{normalizedOf, blended, blendOf, clampedCentre, rowsIn, gainsOf, projectable, projected}

@@ -8,11 +8,10 @@ use native.Mathlib.Nat.{eq-or-lt-of-le}
 use native.Mathlib.Omega.{arith}
 use lib.Ieee.{Float, nan, lt, le, sub, add, div}
 use lib.ListN.{length, getD}
-use Rattle.doubles.specs.Arithmetic.{_⊖_, _⊘_}
-use Rattle.doubles.specs.Arithmetic.{zero as zero64}
+use Rattle.doubles.specs.Arithmetic.{_⊖_, _⊘_, zero64}
 use Rattle.gains.specs.declared.Bracket.{Bracket}
-use Rattle.gains.specs.Lookup.{listed, atKnot, betweenKnots, bracketOf, Found}
-use Rattle.field.specs.Responses.{below}
+use Rattle.gains.specs.Lookup.{tabulate, atKnot, betweenKnots, bracketOf, Found}
+use Rattle.field.specs.Responses.{countBelow}
 use Rattle.field.proofs.ResponseOrder.{not-lt-of-not-le}
 use Rattle.gains.proofs.lookup.Comparing.{not-le-of-lt, nan-of, no-less}
 use Rattle.gains.proofs.lookup.Listing.{length-listed, getD-listed, below-is, below-nan}
@@ -27,7 +26,7 @@ pub is-last : (xs : List Float) (v : Float) → le v (getD xs 0 nan) ≡ false �
 unfolding bracketOf
 is-last xs v e g = rw (e, g)
 
-pub is-between : (xs : List Float) (v : Float) → le v (getD xs 0 nan) ≡ false → le (getD xs (length xs - 1) nan) v ≡ false → bracketOf xs v ≡ betweenKnots xs v (below v xs)
+pub is-between : (xs : List Float) (v : Float) → le v (getD xs 0 nan) ≡ false → le (getD xs (length xs - 1) nan) v ≡ false → bracketOf xs v ≡ betweenKnots xs v (countBelow v xs)
 unfolding bracketOf
 is-between xs v e g = rw (e, g)
 
@@ -41,7 +40,7 @@ noNumber v = record { lower = 0; upper = 0; t = v }
 
 module _ (f : ℕ → Float) (last : ℕ) (r : Rising f last) where
   abbrev pub knots : List Float
-  knots = listed f (last + 1)
+  knots = tabulate f (last + 1)
 
   pub knots-length : length knots ≡ last + 1
   knots-length = length-listed f (last + 1)
@@ -68,11 +67,11 @@ module _ (f : ℕ → Float) (last : ℕ) (r : Rising f last) where
     pub at-last : lt zero64 v ≡ true → le (f last) v ≡ true → bracketOf knots v ≡ atKnot last
     at-last h e = is-last knots v (rw knots-first (not-le-of-lt zero64 v tt h)) (rw knots-last e) ∙ ap atKnot knots-end
 
-    pub between-by : lt zero64 v ≡ true → le (f last) v ≡ false → bracketOf knots v ≡ betweenKnots knots v (below v knots)
+    pub between-by : lt zero64 v ≡ true → le (f last) v ≡ false → bracketOf knots v ≡ betweenKnots knots v (countBelow v knots)
     between-by h e = is-between knots v (rw knots-first (not-le-of-lt zero64 v tt h)) (rw knots-last e)
 
     -- the code's search finds how many knots are below v
-    pub found-below : le (f last) v ≡ false → (k : ℕ) → Found f last v k → below v knots ≡ k
+    pub found-below : le (f last) v ≡ false → (k : ℕ) → Found f last v k → countBelow v knots ≡ k
     found-below e k w =
         let l = w .within in
         below-is v knots k (rw knots-length (omega arith))

@@ -9,7 +9,7 @@ use lib.Dec.{T, ltb, eqb}
 use lib.Ieee.{Float, nan, inf, fin, up, down, lt, le, eq, isNan}
 use lib.Ieee.Fits.{down-pos}
 use lib.Ieee.Scale.{finite}
-use Rattle.doubles.specs.Arithmetic.{zero}
+use Rattle.doubles.specs.Arithmetic.{zero64}
 use Rattle.doubles.proofs.Magnitude.{plain}
 use Rattle.field.proofs.ResponseOrder as order
 
@@ -61,11 +61,11 @@ le-of-not-lt x y h k e = go (le y x) refl
     go false q = absurd (true≢false (sym (order.lt-of-not-le y x k h q) ∙ e))
 
 -- what is neither above zero nor at most zero is a NaN
-pub nan-of : (v : Float) → lt zero v ≡ false → le v zero ≡ false → v ≡ nan
+pub nan-of : (v : Float) → lt zero64 v ≡ false → le v zero64 ≡ false → v ≡ nan
 nan-of nan h k = refl
 nan-of (inf true) h k = unfold lt le eq in absurd (true≢false k)
 nan-of (inf false) h k = unfold lt in absurd (true≢false h)
-nan-of (fin s m e) h k = absurd (true≢false (sym (order.lt-of-not-le (fin s m e) zero tt tt k) ∙ h))
+nan-of (fin s m e) h k = absurd (true≢false (sym (order.lt-of-not-le (fin s m e) zero64 tt tt k) ∙ h))
 
 -- what lies above x, and not from y up, is finite with a clear sign
 pub between-plain : (x y v : Float) → T (plain x) → T (plain y) → lt x v ≡ true → le y v ≡ false → T (plain v)

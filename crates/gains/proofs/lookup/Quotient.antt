@@ -11,15 +11,14 @@ use lib.Ieee.{Float, nan, inf, fin, Format, low, up, down, round, sub, div, lt, 
 use lib.Ieee.Fits.{round-fits}
 use lib.Ieee.Order.{round-mono}
 use lib.Ieee.Positive.{positive, value-pos}
-use Rattle.doubles.specs.Arithmetic.{one}
-use Rattle.doubles.specs.Arithmetic.{zero as zero64}
+use Rattle.doubles.specs.Arithmetic.{one64, zero64}
 use Rattle.doubles.proofs.Magnitude.{mag, mag-of, plain, plain-val, div-at}
 use Rattle.doubles.proofs.Order.{mag-mono, mag-le, round-under-value}
 use Rattle.doubles.proofs.Interpolation.{one-fits}
 use Rattle.doubles.proofs.Differences.{UpTo, sub-at, sub-up-to}
 
-one-mag : (f : Format) → mag f one ≡ 2 ^ low f
-one-mag f = mag-of f one false (2 ^ low f) (refl, ap (λ (z : ℕ). z * 2 ^ low f) (mul-one 1) ∙ mul-comm 1 (2 ^ low f))
+one-mag : (f : Format) → mag f one64 ≡ 2 ^ low f
+one-mag f = mag-of f one64 false (2 ^ low f) (refl, ap (λ (z : ℕ). z * 2 ^ low f) (mul-one 1) ∙ mul-comm 1 (2 ^ low f))
 
 -- what is above 0 has a size above 0
 positive-of : (y : Float) → T (plain y) → lt zero64 y ≡ true → T (positive y)
@@ -35,7 +34,7 @@ room x y l h = le-trans (mul-le-mul-right l (mul-le-mul-right l h)) (le-of-eq (m
 
 module _ (f : Format) (x y : Float) (i : T (fits f x)) (j : T (fits f y)) (p : T (plain x)) (q : T (plain y)) (h : lt zero64 y ≡ true) (l : T (le x y)) where
   -- x / y is from 0 to 1 for x up to y
-  pub div-up-to : UpTo f one (div f x y)
+  pub div-up-to : UpTo f one64 (div f x y)
   div-up-to =
       let u = 2 ^ low f in
       let U = pow-pos (low f) in
@@ -44,10 +43,10 @@ module _ (f : Format) (x y : Float) (i : T (fits f x)) (j : T (fits f y)) (p : T
       let z = round f false (mag f x * u) (mag f y * u) in
       let k = round-fits f false (mag f x * u) (mag f y * u) in
       let m = mag-mono f x y i j p q l in
-      let r = round-under-value f (mag f x * u) (mag f y * u) one (one-fits f) tt (mul-pos Y U) (subst (λ (o : ℕ). mag f x * u * u ≤ o * (mag f y * u)) (sym (one-mag f)) (room (mag f x) (mag f y) u m)) in
-      subst (UpTo f one) (sym e) (k, r .0, mag-le f z one k (one-fits f) (r .0) tt (r .1))
+      let r = round-under-value f (mag f x * u) (mag f y * u) one64 (one-fits f) tt (mul-pos Y U) (subst (λ (o : ℕ). mag f x * u * u ≤ o * (mag f y * u)) (sym (one-mag f)) (room (mag f x) (mag f y) u m)) in
+      subst (UpTo f one64) (sym e) (k, r .0, mag-le f z one64 k (one-fits f) (r .0) tt (r .1))
 
-pub quotient-up-to : (f : Format) (a v b : Float) → T (fits f a) → T (fits f v) → T (fits f b) → T (plain a) → T (plain v) → T (plain b) → T (le a v) → T (le v b) → lt zero64 (sub f b a) ≡ true → UpTo f one (div f (sub f v a) (sub f b a))
+pub quotient-up-to : (f : Format) (a v b : Float) → T (fits f a) → T (fits f v) → T (fits f b) → T (plain a) → T (plain v) → T (plain b) → T (le a v) → T (le v b) → lt zero64 (sub f b a) ≡ true → UpTo f one64 (div f (sub f v a) (sub f b a))
 quotient-up-to f a v b ha hv hb pa pv pb l m h =
     let A = mag-mono f a v ha hv pa pv l in
     let B = mag-mono f v b hv hb pv pb m in

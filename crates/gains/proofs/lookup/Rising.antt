@@ -9,8 +9,7 @@ use borrow.Author.Tests.{eqb-true}
 use lib.Dec.{T, eqb}
 use lib.Ieee.{Float, binary64, round, sum, add, sub, neg, mul, div, lt, fits, ofInt}
 use lib.Ieee.Fits.{and-l, and-r}
-use Rattle.doubles.specs.Arithmetic.{_⊖_, one}
-use Rattle.doubles.specs.Arithmetic.{zero as zero64}
+use Rattle.doubles.specs.Arithmetic.{_⊖_, one64, zero64}
 use Rattle.doubles.proofs.Magnitude.{plain}
 use Rattle.field.specs.Knots.{steps, radiusKnot}
 use Rattle.gains.proofs.lookup.Comparing.{below-trans}
@@ -110,6 +109,6 @@ all-below f last v r (suc j) h e i l =
 pub centre-bounds : (last : ℕ) → T (eqb last 34 || eqb last 3) → (1 ≤ last) × (last ≤ 34)
 centre-bounds last h = centre-last (λ (n : ℕ). (1 ≤ n) × (n ≤ 34)) last h (omega arith) (omega arith)
 
-pub centre-end : (last : ℕ) → T (eqb last 34 || eqb last 3) → one ≡ steps last last
+pub centre-end : (last : ℕ) → T (eqb last 34 || eqb last 3) → one64 ≡ steps last last
 unfolding round ofInt div
-centre-end last h = centre-last (λ (n : ℕ). one ≡ steps n n) last h refl refl
+centre-end last h = centre-last (λ (n : ℕ). one64 ≡ steps n n) last h refl refl

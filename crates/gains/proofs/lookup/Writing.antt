@@ -10,11 +10,11 @@ use lib.ListN.{length, getD, set, take, drop, length-set, take-append-drop}
 use lib.Seq.{take-suc-set}
 use Rattle.lists.proofs.Filter.{store-behind}
 use Rattle.gains.specs.declared.Bracket.{Bracket}
-use Rattle.gains.specs.Lookup.{listed, mixed, lookupOf}
+use Rattle.gains.specs.Lookup.{tabulate, mixed, lookupOf}
 
 -- the first k are written, and the rest is as it was
 pub record Written (F : ℕ → Float) (old out : List Float) (k : ℕ) : Type 0 where
-  pub same : take k out ≡ listed F k
+  pub same : take k out ≡ tabulate F k
   pub rest : drop k out ≡ drop k old
   pub room : length out ≡ length old
 
@@ -32,7 +32,7 @@ module _ (F : ℕ → Float) (old : List Float) where
       }
 
   -- all n
-  pub written-done : (out : List Float) (n : ℕ) → Written F old out n → out ≡ listed F n ++ drop n old
+  pub written-done : (out : List Float) (n : ℕ) → Written F old out n → out ≡ tabulate F n ++ drop n old
   written-done out n w = sym (take-append-drop n out) ∙ rw (w .same, w .rest)
 
 -- the numbers at the four knots, where the code reads them

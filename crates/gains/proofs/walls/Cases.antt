@@ -2,8 +2,8 @@
 use mathlib.Core.Path.{_≡_, sym, ap, _∙_}
 use mathlib.Core.Bool.{Bool, true, false, cond}
 use lib.Ieee.{Float, lt}
-use Rattle.doubles.specs.Arithmetic.{_⊖_, one}
-use Rattle.gains.specs.declared.Centre.{Centre}
+use Rattle.doubles.specs.Arithmetic.{_⊖_, one64}
+use Rattle.layout.specs.declared.Centre.{Centre}
 use Rattle.gains.specs.declared.Wall.{Wall}
 use Rattle.gains.specs.declared.Wall.the-variants.{Z}
 use Rattle.gains.specs.Walls.{distanceOf, nearerOf, wallX, wallY, nearestWall}
@@ -21,10 +21,10 @@ module _ (c : Centre) (deep : Bool) (x y w : Wall) (p : x ≡ wallX (c .x)) (q :
   unfolding nearestWall
   nearest-flat d =
       let v = nearerOf (wallX (c .x)) (wallY (c .y)) in
-      flat ∙ sym (ap (λ (b : Bool). cond b (nearerOf v (Z (one ⊖ c .z))) v) d)
+      flat ∙ sym (ap (λ (b : Bool). cond b (nearerOf v (Z (one64 ⊖ c .z))) v) d)
 
-  pub nearest-deep : (r : Wall) → deep ≡ true → r ≡ nearerOf w (Z (one ⊖ c .z)) → r ≡ nearestWall c deep
+  pub nearest-deep : (r : Wall) → deep ≡ true → r ≡ nearerOf w (Z (one64 ⊖ c .z)) → r ≡ nearestWall c deep
   unfolding nearestWall
   nearest-deep r d k =
       let v = nearerOf (wallX (c .x)) (wallY (c .y)) in
-      k ∙ ap (λ (u : Wall). nearerOf u (Z (one ⊖ c .z))) flat ∙ sym (ap (λ (b : Bool). cond b (nearerOf v (Z (one ⊖ c .z))) v) d)
+      k ∙ ap (λ (u : Wall). nearerOf u (Z (one64 ⊖ c .z))) flat ∙ sym (ap (λ (b : Bool). cond b (nearerOf v (Z (one64 ⊖ c .z))) v) d)

@@ -12,7 +12,8 @@ use Rattle.lists.specs.Lists.{total}
 use Rattle.layout.specs.declared.Anchor.{Anchor}
 use Rattle.layout.specs.declared.Row.{Row}
 use Rattle.layout.specs.declared.Layout.{Layout}
-use Rattle.layout.specs.Topology.{usedRows, usedAnchors, layerCount, noLayer, noRow}
+use Rattle.layout.specs.Topology.{usedRows, usedAnchors, layerCount}
+use Rattle.layout.specs.Steps.Starts.{noLayer, noRow}
 use Rattle.layout.specs.Build.{oneMore, hasLayer, lastLayer, hasRow, withRow, withAnchor}
 use Rattle.layout.proofs.Sizes.{Sized}
 use Rattle.layout.proofs.build.Places.{put-here, put-past}

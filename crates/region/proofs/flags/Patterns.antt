@@ -13,7 +13,8 @@ use Rattle.region.specs.declared.RegionTopBottomState.the-variants.{Incl
 use Rattle.region.specs.declared.RegionSemanticState.{RegionSemanticState}
 use Rattle.region.specs.declared.Zones.{Zones}
 use Rattle.region.specs.declared.Zones.the-variants.{State, Refused}
-use Rattle.region.specs.Zones.{fiveOf, flagsOf, isInclude, zonesOf, refusalOf, question8, topOf, packedList, packedZones}
+use Rattle.region.specs.Zones.{fiveOf, flagsOf, isInclude, zonesOf, refusalOf, question8, topOf}
+use Rattle.region.specs.Steps.{packedList, packedZones}
 
 abbrev Over : ℕ → (List Bool → Type 0) → Type 0
 Over zero P = P []

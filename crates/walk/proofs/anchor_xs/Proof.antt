@@ -6,7 +6,8 @@ use borrow.Author.Needs.{needs}
 use lib.ListN.{length-map}
 use Rattle.lists.proofs.Loops.{long}
 use Rattle.lists.proofs.Fill.{Filled, fill-none, fill-map, fill-done}
-use Rattle.layout.specs.Topology.{anchorX, noAnchor}
+use Rattle.layout.specs.Topology.{anchorX}
+use Rattle.layout.specs.Steps.Starts.{noAnchor}
 use Rattle.walk.proofs.anchor_xs.Statement.{statement}
 use Rattle.walk.proofs.anchor_xs.Tie as tie
 

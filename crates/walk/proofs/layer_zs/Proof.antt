@@ -6,7 +6,8 @@ use borrow.Author.Needs.{needs}
 use lib.ListN.{length-map}
 use Rattle.lists.proofs.Loops.{long}
 use Rattle.lists.proofs.Fill.{Filled, fill-none, fill-map, fill-done}
-use Rattle.layout.specs.Topology.{layerZ, noLayer}
+use Rattle.layout.specs.Topology.{layerZ}
+use Rattle.layout.specs.Steps.Starts.{noLayer}
 use Rattle.walk.proofs.layer_zs.Statement.{statement}
 use Rattle.walk.proofs.layer_zs.Tie as tie
 

@@ -6,7 +6,8 @@ use borrow.Author.Needs.{needs}
 use lib.ListN.{length-map}
 use Rattle.lists.proofs.Loops.{long}
 use Rattle.lists.proofs.Fill.{Filled, fill-none, fill-map, fill-done}
-use Rattle.layout.specs.Topology.{rowY, noRow}
+use Rattle.layout.specs.Topology.{rowY}
+use Rattle.layout.specs.Steps.Starts.{noRow}
 use Rattle.walk.proofs.row_ys.Statement.{statement}
 use Rattle.walk.proofs.row_ys.Tie as tie
 

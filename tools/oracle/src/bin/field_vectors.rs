@@ -81,6 +81,18 @@ impl Script {
             writeln!(self.answers, "{bits:016x}").unwrap();
         }
     }
+    /// One projection over place p with a radius by itself, and with the point gains that were brought last.
+    fn project_at(&mut self, p: usize, l: &SpatialLayout, field: &open::Field, radius: f64, centre: [f64; 3], points: &[f64]) {
+        for (i, x) in centre.iter().enumerate() {
+            self.put(933 + i, x.to_bits());
+        }
+        self.put(942, radius.to_bits());
+        self.put(943, p as u64);
+        let descriptor = SpatialDescriptor::wide(centre, [0.0; 3], None, points);
+        for gain in field.project_at(l, &descriptor, radius) {
+            writeln!(self.answers, "{:016x}", gain.to_bits()).unwrap();
+        }
+    }
     /// Fills a place; answers the offsets of the nine tables.
     fn fill(&mut self, p: usize, l: &SpatialLayout) -> [(usize, usize); 9] {
         self.put(920, p as u64);
@@ -209,6 +221,34 @@ fn projections(s: &mut Script, random: &mut Random, list: &[SpatialLayout], coun
     }
 }
 
+/// Radii that no extent has: those that the tests of blend, lambda, kernel and shaping compare with, and the doubles
+/// next to them. The centre is inside, and near each wall at distances on both sides of those that lambda and the
+/// kernel's test compare with.
+fn radii(s: &mut Script, list: &[&SpatialLayout]) {
+    for l in list {
+        s.layout(l);
+        s.fill(0, l);
+        let field = open::Field::build(l);
+        let n = l.channels.iter().filter(|c| c.enabled && !c.lfe).count();
+        let points: Vec<f64> = (0..n).map(|k| (k + 1) as f64 / 32.0).collect();
+        s.put(937, 0);
+        for x in &points {
+            s.put(936, x.to_bits());
+        }
+        for limit in [0.000025, 0.05, 0.125] {
+            for radius in halves::beside(limit) {
+                s.project_at(0, l, &field, radius, [0.5, 0.5, 0.25], &points);
+                let tie = 4.0 * radius;
+                for d in [tie / 2.0, tie, 2.0 * tie, 0.2].into_iter().filter(|&d| d <= 0.5) {
+                    for centre in [[d, 0.5, 0.25], [1.0 - d, 0.5, 0.25], [0.5, d, 0.25], [0.5, 1.0 - d, 0.25], [0.5, 0.5, 1.0 - d]] {
+                        s.project_at(0, l, &field, radius, centre, &points);
+                    }
+                }
+            }
+        }
+    }
+}
+
 fn main() {
     let folder = env::args().nth(1).expect("the folder to write to");
     let mut s = Script { inputs: String::new(), answers: String::new(), store: vec![0.0; STORE] };
@@ -261,6 +301,7 @@ fn main() {
             s.project(0, l, &field, extent, centre, &points);
         }
     }
+    radii(&mut s, &[&list[2], &list[5], &twins[3]]);
     fs::write(Path::new(&folder).join("stdin"), s.inputs).unwrap();
     fs::write(Path::new(&folder).join("stdout"), s.answers).unwrap();
 }

@@ -517,6 +517,13 @@ fn main() {
         let room = rooms::twinned(&mut random, [4, 8, 12, 20][round % 4]);
         twins(&mut s, &fields(&room));
     }
+    for room in rooms::rows() {
+        let f = fields(&room);
+        s.take(&f);
+        s.ask();
+        s.build(&f);
+        s.ask();
+    }
     eprintln!("answers by question: {:?}", s.refused);
     fs::write(Path::new(&folder).join("stdin"), s.inputs).unwrap();
     fs::write(Path::new(&folder).join("stdout"), s.answers).unwrap();

@@ -159,6 +159,9 @@ fn main() {
     for round in 0..40 {
         s.room(&rooms::twinned(&mut random, [4, 8, 12, 20][round % 4]));
     }
+    for room in rooms::inactive() {
+        s.room(&room);
+    }
     eprintln!("answers: {:?}", s.told);
     fs::write(Path::new(&folder).join("stdin"), s.inputs).unwrap();
     fs::write(Path::new(&folder).join("stdout"), s.answers).unwrap();

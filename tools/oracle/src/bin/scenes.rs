@@ -1,8 +1,9 @@
 //! Writes random scene scripts: `scenes SEED COUNT FOLDER` makes COUNT files of about 60 calls each and
 //! tells in how many of them a room has twins. `scenes twins` writes one script of such rooms alone,
-//! under all twelve zone states, `scenes sliders` one of extents at and past their ends, and `scenes halves`
-//! one of extents whose components lie halfway between two whole numbers of 1 / 32768, or next to that.
-use oracle::{halves, random::Random, rooms, SpatialLayout};
+//! under all twelve zone states, `scenes sliders` one of extents at and past their ends, `scenes halves`
+//! one of extents whose components lie halfway between two whole numbers of 1 / 32768, or next to that, and
+//! `scenes limits` one of rooms, point gains and centres at and next to what the questions and lambda compare with.
+use oracle::{extent::open, halves, random::Random, rooms, SpatialLayout};
 use std::{
     env, fs,
     io::{self, Write},
@@ -889,6 +890,73 @@ fn halfway() -> Vec<u8> {
     s.text
 }
 
+/// Channels that are not active and still count for the selection, each under all twelve zone states; six rows in a
+/// layer and more; a point gain of 5/4, of -0 and of the doubles past these, at each place; and centres whose
+/// distance from a wall is four times the radius or 4 * 0.05, or next to that.
+fn limits() -> Vec<u8> {
+    let mut s = Script { text: Vec::new(), random: Random(14), now: None, twins: true };
+    let call = Call {
+        draft: Draft::of(&rooms::real()[2]),
+        epoch: 14,
+        extent: [0.3; 3],
+        zones: "TTTTTT".to_owned(),
+        centre: [0.3, 0.6, 0.0],
+        points: vec![0.6, 0.0, 0.8, 0.25, -0.0],
+        slots: 24,
+        store: STORE,
+    };
+    s.line("fresh");
+    for l in rooms::inactive() {
+        let draft = Draft::of(&l);
+        let points = vec![0.5; draft.active()];
+        for zones in ADMITTED.iter().flat_map(|z| ["T", "F"].map(|top| format!("{z}{top}"))) {
+            s.call(&Call { draft: draft.clone(), points: points.clone(), zones, ..call.clone() });
+        }
+    }
+    for l in rooms::rows() {
+        s.call(&Call { draft: Draft::of(&l), points: vec![0.5; 3], ..call.clone() });
+    }
+    s.line("show");
+    // the point gains alone, both, and the field alone
+    for extent in [0.0, 0.1, 0.3] {
+        for i in 0..5 {
+            for gain in halves::beside(1.25).into_iter().chain([-0.0, -f64::from_bits(1)]) {
+                let mut other = Call { extent: [extent; 3], ..call.clone() };
+                other.points[i] = gain;
+                s.call(&other);
+            }
+        }
+    }
+    s.line("show");
+    // 5.1, 7.1.4 and 22.2
+    for l in [2, 5, 7].map(|i| rooms::real().swap_remove(i)) {
+        let draft = Draft::of(&l);
+        let n = draft.active();
+        let call = Call { draft, points: (0..n).map(|k| k as f64 / 32.0).collect(), ..call.clone() };
+        let reading = |mean: u32| open::read([f64::from(mean) / 32768.0; 3]).unwrap().1;
+        // above 0.05 the radius alone decides; at the far walls the distance has fewer digits
+        let whole = |r: f64| 1.0 - (1.0 - 4.0 * r) == 4.0 * r;
+        let wide = (4400..9362).step_by(7).filter(|&mean| whole(reading(mean))).step_by(120);
+        let ties = wide.map(|mean| (mean, 4.0 * reading(mean)));
+        // up to 0.05 that number
+        for (mean, tie) in ties.chain([300, 2000, 4369].map(|mean| (mean, 0.2))) {
+            let extent = [f64::from(mean) / 32768.0; 3];
+            for d in halves::beside(tie) {
+                for centre in [[d, 0.5, 0.25], [0.5, d, 0.25]] {
+                    s.call(&Call { extent, centre, ..call.clone() });
+                }
+            }
+            for far in halves::beside(1.0 - tie) {
+                for centre in [[far, 0.5, 0.25], [0.5, far, 0.25], [0.5, 0.5, far]] {
+                    s.call(&Call { extent, centre, ..call.clone() });
+                }
+            }
+        }
+    }
+    s.line("show");
+    s.text
+}
+
 fn main() {
     let arguments: Vec<String> = env::args().collect();
     let words: Vec<&str> = arguments.iter().map(String::as_str).collect();
@@ -896,6 +964,7 @@ fn main() {
         [_, "twins"] => Some(twins()),
         [_, "sliders"] => Some(sliders()),
         [_, "halves"] => Some(halfway()),
+        [_, "limits"] => Some(limits()),
         _ => None,
     };
     if let Some(text) = one {
@@ -903,7 +972,7 @@ fn main() {
         return;
     }
     let [_, seed, count, folder] = words[..] else {
-        panic!("scenes SEED COUNT FOLDER | scenes twins | scenes sliders | scenes halves");
+        panic!("scenes SEED COUNT FOLDER | scenes twins | scenes sliders | scenes halves | scenes limits");
     };
     let (seed, count): (u64, u64) = (seed.parse().unwrap(), count.parse().unwrap());
     let mut with_twins = 0;

@@ -5,7 +5,7 @@ use borrow.Author.Needs.{needs}
 use lib.Dec.{T}
 use lib.Ieee.{Float, binary64, fits, lt, ofBits}
 use lib.Ieee.Scale.{finite}
-use Rattle.doubles.specs.Arithmetic.{zero}
+use Rattle.doubles.specs.Arithmetic.{zero64}
 use Rattle.doubles.proofs.Finite.{minus-inf-is}
 use Rattle.doubles.proofs.Floors.{yes}
 use Rattle.approximations.proofs.log2.Cases.{Next, next, log2-none}
@@ -19,9 +19,9 @@ held : (c : tie.Start) → T (fits binary64 (v c))
 held c = subst T (sym (c .good .0 .1)) tt
 
 -- the test, by what `is_finite` ensures
-taken : (c : tie.Then1) → T (finite (v (c .before .before)) && lt zero (v (c .before .before)))
+taken : (c : tie.Then1) → T (finite (v (c .before .before)) && lt zero64 (v (c .before .before)))
 unfolding ofBits
-taken c = yes (subst (λ (t : Bool). t && lt zero (v (c .before .before)) ≡ true) (c .before .is-finite .ensures) (c .if1 .taken))
+taken c = yes (subst (λ (t : Bool). t && lt zero64 (v (c .before .before)) ≡ true) (c .before .is-finite .ensures) (c .if1 .taken))
 
 sum : (c : tie.After-floor-log2) → Next (v (c .before .before .before)) (c .floor-log2 .result)
 sum c = next (v (c .before .before .before)) (c .floor-log2 .result) (held (c .before .before .before)) (taken (c .before)) (c .floor-log2 .ensures)
@@ -39,7 +39,7 @@ returns c =
 
 returns-2 : tie.Need-returns-2
 unfolding ofBits
-returns-2 c = minus-inf-is ∙ log2-none (v (c .before .before)) (subst (λ (t : Bool). t && lt zero (v (c .before .before)) ≡ false) (c .before .is-finite .ensures) (c .if1 .left))
+returns-2 c = minus-inf-is ∙ log2-none (v (c .before .before)) (subst (λ (t : Bool). t && lt zero64 (v (c .before .before)) ≡ false) (c .before .is-finite .ensures) (c .if1 .left))
 
 pub log2-rest-spec : {M : Type 1} → statement M
 log2-rest-spec =

@@ -9,4 +9,4 @@ matches-bed-state-spec =
     (λ c κs. search needs)
     (λ c κs. search needs)
     (λ c κs. search needs)
-    (λ c. rw (c .bed-if .ensures, c .before .is-kept .ensures, c .before .before .speaker .ensures)))
+    (λ c. rw (c .bed-match-if .ensures, c .before .is-kept .ensures, c .before .before .classes-of .ensures)))

@@ -4,7 +4,7 @@ use Prim.Native.Nat.{_-_, _≤_}
 use native.Mathlib.Omega.{arith}
 use borrow.Author.Needs.{needs}
 use lib.ListN.{length, length-set}
-use Rattle.field.specs.Columns.{Firsts}
+use Rattle.field.specs.Steps.Columns.{Firsts}
 use Rattle.field.proofs.SameColumns.{firsts-none, firsts-more}
 use Rattle.field.proofs.columns.first_columns.Statement.{statement}
 use Rattle.field.proofs.columns.first_columns.Tie as tie

@@ -4,7 +4,7 @@ use Prim.Native.Nat.{_-_, _≤_}
 use native.Mathlib.Nat.{sub-zero}
 use native.Mathlib.Omega.{arith}
 use borrow.Author.Needs.{needs}
-use Rattle.field.specs.Columns.{firstFrom, firstSame}
+use Rattle.field.specs.Steps.Columns.{firstFrom, firstSame}
 use Rattle.field.proofs.SameColumns.{first-done, first-more}
 use Rattle.field.proofs.columns.first_same.Statement.{statement}
 use Rattle.field.proofs.columns.first_same.Tie as tie

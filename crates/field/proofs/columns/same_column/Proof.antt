@@ -7,7 +7,7 @@ use native.Mathlib.Omega.{arith}
 use borrow.Author.Needs.{needs}
 use borrow.Author.Tests.{eq-eqb, ne-eqb}
 use lib.Dec.{eqb}
-use Rattle.field.specs.Columns.{patternAt, sameFrom, sameColumn}
+use Rattle.field.specs.Steps.Columns.{patternAt, sameFrom, sameColumn}
 use Rattle.field.proofs.SameColumns.{same-done, same-more}
 use Rattle.field.proofs.columns.same_column.Statement.{statement}
 use Rattle.field.proofs.columns.same_column.Tie as tie

@@ -8,7 +8,7 @@ use lib.ListN.{length}
 use Rattle.lists.proofs.Loops.{long}
 use Rattle.layout.specs.Topology.{topologyOf}
 use Rattle.layout.proofs.TopologyFlat.{topology-length}
-use Rattle.field.specs.Place.{filledZ}
+use Rattle.field.specs.Steps.Filling.{filledZ}
 use Rattle.field.proofs.PlaceRows.{filled-flat, filled-deep}
 use Rattle.field.proofs.place.fill_rows.Statement.{statement}
 use Rattle.field.proofs.place.fill_rows.Tie as tie

@@ -3,7 +3,7 @@ use mathlib.Core.Path.{sym, ap, _∙_}
 use native.Mathlib.Omega.{arith}
 use borrow.Author.Needs.{needs}
 use lib.Ieee.{ofBits}
-use Rattle.field.specs.Responses.{pickAdded, pickEnd}
+use Rattle.field.specs.Steps.Flat.{pickAdded, pickEnd}
 use Rattle.field.proofs.response.Parts.{parted}
 use Rattle.field.proofs.response.add_pick.Statement.{statement}
 use Rattle.field.proofs.response.add_pick.Tie as tie

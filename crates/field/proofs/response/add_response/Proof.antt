@@ -4,7 +4,7 @@ use Prim.Native.Nat.{_-_, _≤_}
 use native.Mathlib.Omega.{arith}
 use borrow.Author.Needs.{needs}
 use lib.ListN.{length}
-use Rattle.field.specs.Responses.{responseAdded, groupPick}
+use Rattle.field.specs.Steps.Flat.{responseAdded, groupPick}
 use Rattle.field.proofs.response.Runs.{response-none, response-more, group-within, group-first, group-last, group-parted}
 use Rattle.field.proofs.response.add_response.Statement.{statement}
 use Rattle.field.proofs.response.add_response.Tie as tie

@@ -5,7 +5,7 @@ use native.Mathlib.Omega.{arith}
 use borrow.Author.Needs.{needs}
 use lib.ListN.{length, length-set, getD}
 use lib.Seq.{slice}
-use Rattle.field.specs.Responses.{addedAt}
+use Rattle.field.specs.Steps.Flat.{addedAt}
 use Rattle.field.proofs.response.Slices.{slice-past, added-more, added-none}
 use Rattle.field.proofs.response.add_weight.Statement.{statement}
 use Rattle.field.proofs.response.add_weight.Tie as tie

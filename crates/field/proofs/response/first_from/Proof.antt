@@ -6,13 +6,13 @@ use native.Mathlib.Omega.{arith}
 use borrow.Author.Needs.{needs}
 use borrow.Author.Tests.{not-true, not-false}
 use lib.Seq.{slice}
-use Rattle.field.specs.Responses.{below}
+use Rattle.field.specs.Responses.{countBelow}
 use Rattle.field.proofs.response.Slices.{slice-past, below-more, below-found}
 use Rattle.field.proofs.response.first_from.Statement.{statement}
 use Rattle.field.proofs.response.first_from.Tie as tie
 
 abbrev Inv-loop : tie.InvT-loop
-Inv-loop v a b u i₀ i = (i ≤ b) × (i + below u (slice i b v) ≡ a + below u (slice a b v))
+Inv-loop v a b u i₀ i = (i ≤ b) × (i + countBelow u (slice i b v) ≡ a + countBelow u (slice a b v))
 
 abbrev μ-loop : tie.MeasureT-loop
 μ-loop v a b u i₀ i = b - i

@@ -5,7 +5,7 @@ use native.Mathlib.Omega.{arith}
 use borrow.Author.Needs.{needs}
 use lib.ListN.{length}
 use Rattle.field.specs.Knots.{X}
-use Rattle.field.specs.Responses.{responded}
+use Rattle.field.specs.Steps.Flat.{responded}
 use Rattle.field.proofs.ResponseSamples.{sample-finite}
 use Rattle.field.proofs.response.Runs.{responded-none, responded-more}
 use Rattle.field.proofs.response.respond.Statement.{statement}

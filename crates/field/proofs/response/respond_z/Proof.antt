@@ -5,7 +5,7 @@ use native.Mathlib.Omega.{arith}
 use borrow.Author.Needs.{needs}
 use lib.ListN.{length}
 use Rattle.field.specs.Knots.{Z, steps}
-use Rattle.field.specs.Responses.{respondedZ}
+use Rattle.field.specs.Steps.Flat.{respondedZ}
 use Rattle.field.proofs.ResponseSamples.{sample-finite}
 use Rattle.field.proofs.response.Parts.{fewer}
 use Rattle.field.proofs.response.Picks.{layers-pick-end}

@@ -7,7 +7,7 @@ use native.Mathlib.Omega.{arith}
 use borrow.Author.Needs.{needs}
 use lib.Ieee.{Float, nan, ofBits}
 use lib.ListN.{length, getD, take, length-set}
-use Rattle.field.specs.Sums.{productsOf}
+use Rattle.field.specs.Steps.Sums.{productsOf}
 use Rattle.field.proofs.SampledSums.{products-none, products-more, products-same}
 use Rattle.field.proofs.table.products.Statement.{statement}
 use Rattle.field.proofs.table.products.Tie as tie

@@ -6,14 +6,14 @@ use borrow.Author.Needs.{needs}
 use lib.Ieee.{nan, ofBits}
 use lib.ListN.{take}
 use lib.Seq.{slice}
-use Rattle.doubles.specs.Arithmetic.{zero}
-use Rattle.field.specs.Sums.{sumFrom}
+use Rattle.doubles.specs.Arithmetic.{zero64}
+use Rattle.field.specs.Steps.Sums.{sumFrom}
 use Rattle.field.proofs.SampledSums.{sum-more, sum-done}
 use Rattle.field.proofs.table.sum_of.Statement.{statement}
 use Rattle.field.proofs.table.sum_of.Tie as tie
 
 abbrev Inv-loop : tie.InvT-loop
-Inv-loop y n sum₀ i₀ sum i = (i ≤ n) × (sumFrom zero (take n y) ≡ sumFrom sum (slice i n y))
+Inv-loop y n sum₀ i₀ sum i = (i ≤ n) × (sumFrom zero64 (take n y) ≡ sumFrom sum (slice i n y))
 
 abbrev μ-loop : tie.MeasureT-loop
 μ-loop y n sum₀ i₀ sum i = n - i

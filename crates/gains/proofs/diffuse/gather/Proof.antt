@@ -8,7 +8,7 @@ use lib.Ieee.{Float, ofBits}
 use lib.ListN.{length, length-set}
 use Rattle.doubles.specs.Arithmetic.{_⊘_}
 use Rattle.approximations.specs.Log2.{log2Of}
-use Rattle.gains.specs.Gathered.{aboveBefore, Gathered}
+use Rattle.gains.specs.Steps.Gathered.{aboveBefore, Gathered}
 use Rattle.gains.proofs.diffuse.Gathering.{above-none, above-more, above-same, gathered-none, gathered-more, gathered-same}
 use Rattle.gains.proofs.diffuse.gather.Statement.{statement}
 use Rattle.gains.proofs.diffuse.gather.Tie as tie

@@ -6,8 +6,8 @@ use native.Mathlib.Omega.{arith}
 use borrow.Author.Needs.{needs}
 use lib.Ieee.{nan, lt, ofBits}
 use lib.ListN.{length}
-use Rattle.doubles.specs.Arithmetic.{zero}
-use Rattle.gains.specs.Gathered.{aboveBefore, scattered}
+use Rattle.doubles.specs.Arithmetic.{zero64}
+use Rattle.gains.specs.Steps.Gathered.{aboveBefore, scattered}
 use Rattle.gains.proofs.lookup.Writing.{Written, written-none, written-more, written-done}
 use Rattle.gains.proofs.diffuse.Channels.{written-reads}
 use Rattle.gains.proofs.diffuse.Gathering.{above-none, above-more, above-same, scattered-some, scattered-none}
@@ -33,7 +33,7 @@ loop-again c =
     let same = written-reads _ _ _ k nan (i .4) in
     ⊎-elim
     (λ w.
-    let t = ap (lt zero) (sym same) ∙ w .0 .taken in (
+    let t = ap (lt zero64) (sym same) ∙ w .0 .taken in (
       omega arith,
       rw (w .3) (omega arith),
       rw (w .3) (above-more _ k (l .loop .m) (i .2) t),
@@ -41,7 +41,7 @@ loop-again c =
       rw (w .2) (written-more _ _ _ _ _ (omega arith) (scattered-some (a .out .now) (a .gathered .now) k (l .loop .m) (i .2) t) (i .4)),
     ))
     (λ w.
-    let t = ap (lt zero) (sym same) ∙ w .0 .left in (
+    let t = ap (lt zero64) (sym same) ∙ w .0 .left in (
       omega arith,
       rw (w .2) (omega arith),
       rw (w .2) (above-same _ k (l .loop .m) (i .2) t),

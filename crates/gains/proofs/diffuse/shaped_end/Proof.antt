@@ -5,7 +5,7 @@ use borrow.Author.Needs.{needs}
 use lib.Dec.{T}
 use lib.Ieee.{Float, ofBits, lt}
 use lib.Ieee.Scale.{finite}
-use Rattle.doubles.specs.Arithmetic.{_⊗_, zero}
+use Rattle.doubles.specs.Arithmetic.{_⊗_, zero64}
 use Rattle.approximations.specs.Exp2.{exp2Of}
 use Rattle.approximations.proofs.Laws.{exp2-finite}
 use Rattle.extent.specs.Kernel.{positive}
@@ -14,17 +14,17 @@ use Rattle.gains.proofs.diffuse.shaped_end.Statement.{statement}
 use Rattle.gains.proofs.diffuse.shaped_end.Tie as tie
 
 -- a finite number is positive where it is above zero
-above : (x : Float) → T (finite x) → positive x ≡ lt zero x
+above : (x : Float) → T (finite x) → positive x ≡ lt zero64 x
 above x h = go (finite x) h
   where
-    go : (b : Bool) → T b → (b && lt zero x) ≡ lt zero x
+    go : (b : Bool) → T b → (b && lt zero64 x) ≡ lt zero64 x
     go true t = refl
     go false t = absurd t
 
 result-is : (c : tie.After-approx-exp2) → let a = c .before .before .before .args in c .approx-exp2 .result ≡ power (a .value) (a .exponent)
 result-is c = c .approx-exp2 .ensures ∙ ap (λ (l : Float). exp2Of (c .before .before .before .args .exponent ⊗ l)) (c .before .approx-log2 .ensures)
 
-result-above : (c : tie.After-approx-exp2) → positive (c .approx-exp2 .result) ≡ lt zero (c .approx-exp2 .result)
+result-above : (c : tie.After-approx-exp2) → positive (c .approx-exp2 .result) ≡ lt zero64 (c .approx-exp2 .result)
 result-above c = above _ (subst (λ (x : Float). T (finite x)) (sym (c .approx-exp2 .ensures)) (exp2-finite _))
 
 returns : tie.Need-returns

@@ -4,13 +4,13 @@ use mathlib.Core.List.{map}
 use native.Mathlib.Omega.{arith}
 use lib.Ieee.{Float, ofBits}
 use lib.ListN.{take}
-use Rattle.doubles.specs.Arithmetic.{zero}
+use Rattle.doubles.specs.Arithmetic.{zero64}
 use Rattle.gains.proofs.gains.Front.{Replaced, map-none, map-more, replace-done}
 use Rattle.gains.proofs.gains.clear.Statement.{statement}
 use Rattle.gains.proofs.gains.clear.Tie as tie
 
 abbrev Inv : tie.InvT-loop
-Inv v₀ n k₀ v k = Replaced n (map (λ (x : Float). zero) (take n v₀)) v₀ v k
+Inv v₀ n k₀ v k = Replaced n (map (λ (x : Float). zero64) (take n v₀)) v₀ v k
 
 abbrev μ : tie.MeasureT-loop
 μ v₀ n k₀ v k = n - k
@@ -20,7 +20,7 @@ unfolding ofBits
 again c =
     let l = c .before in
     let a = l .before .args in
-    map-more (λ (x : Float). zero) (a .n) (a .v .now) (l .loop .v) (l .loop .k) (l .loop .inv) (omega arith)
+    map-more (λ (x : Float). zero64) (a .n) (a .v .now) (l .loop .v) (l .loop .k) (l .loop .inv) (omega arith)
 
 pub clear-spec : {M : Type 1} → statement M
 clear-spec =

@@ -7,7 +7,7 @@ use native.Mathlib.Omega.{arith}
 use lib.Ieee.{Float}
 use lib.ListN.{length, take, drop, length-append, length-drop, length-replicate}
 use lib.Seq.{take-at}
-use Rattle.gains.specs.declared.Centre.{Centre}
+use Rattle.layout.specs.declared.Centre.{Centre}
 use Rattle.gains.specs.Lookup.{channels}
 use Rattle.gains.specs.Diffuse.{placeRows, diffuseOf}
 use Rattle.gains.specs.Gains.{normalizedOf, clampedCentre}

@@ -6,7 +6,8 @@ use lib.Ieee.{Float}
 use lib.ListN.{take, drop, length-map}
 use lib.Seq.{length-take-le}
 use Rattle.doubles.specs.Arithmetic.{_⊕_, _⊗_, dec}
-use Rattle.gains.specs.Gains.{normalizedOf, zipped}
+use Rattle.gains.specs.Gains.{normalizedOf}
+use Rattle.lists.specs.Lists.{zipWith}
 use Rattle.gains.proofs.gains.Front.{zipped-long}
 use Rattle.gains.proofs.gains.Normal.{written-then, blended-point, blended-both, blended-field}
 use Rattle.gains.proofs.gains.mix.Statement.{statement}
@@ -35,7 +36,7 @@ returns-2 c =
     let w : Float → Float → Float = λ (p d : Float). v .0 ⊗ p ⊕ v .1 .0 ⊗ d in
     let long = zipped-long w (take n p) (take n g) n (length-take-le n p (s .pre .1)) (length-take-le n g (s .pre .0)) in
     r .normalize .ensures
-    ∙ written-then normalizedOf n (zipped w (take n p) (take n g)) g _ long (m .mix-points .ensures)
+    ∙ written-then normalizedOf n (zipWith w (take n p) (take n g)) g _ long (m .mix-points .ensures)
     ∙ ap (λ (xs : List Float). xs ++ drop n g) (blended-both (a .blend) (take n p) (take n g) (v .0) (v .1 .0) (t .blend .given .1))
 
 returns-3 : tie.Need-returns-3

@@ -4,7 +4,7 @@ use native.Mathlib.Omega.{arith}
 use lib.Ieee.{Float}
 use lib.ListN.{take}
 use Rattle.doubles.specs.Arithmetic.{_⊕_, _⊗_}
-use Rattle.gains.specs.Gains.{zipped}
+use Rattle.lists.specs.Lists.{zipWith}
 use Rattle.gains.proofs.gains.Front.{Replaced, zip-none, zip-more, replace-done}
 use Rattle.gains.proofs.gains.mix_points.Statement.{statement}
 use Rattle.gains.proofs.gains.mix_points.Tie as tie
@@ -13,7 +13,7 @@ abbrev weighted : Float → Float → Float → Float → Float
 weighted a b p d = a ⊗ p ⊕ b ⊗ d
 
 abbrev Inv : tie.InvT-loop
-Inv v₀ points n a b k₀ v k = Replaced n (zipped (weighted a b) (take n points) (take n v₀)) v₀ v k
+Inv v₀ points n a b k₀ v k = Replaced n (zipWith (weighted a b) (take n points) (take n v₀)) v₀ v k
 
 abbrev μ : tie.MeasureT-loop
 μ v₀ points n a b k₀ v k = n - k

@@ -5,7 +5,7 @@ use borrow.Author.Needs.{needs}
 use lib.Ieee.{Float, ofBits}
 use lib.ListN.{take, drop}
 use lib.Seq.{length-take-le}
-use Rattle.doubles.specs.Arithmetic.{zero}
+use Rattle.doubles.specs.Arithmetic.{zero64}
 use Rattle.gains.proofs.gains.Normal.{normalized-yes, normalized-no, same-number}
 use Rattle.gains.proofs.gains.normalize_into.Statement.{statement}
 use Rattle.gains.proofs.gains.normalize_into.Tie as tie
@@ -34,7 +34,7 @@ returns-2 c =
     d .clear .ensures
     ∙ ap
     (λ (xs : List Float). xs ++ drop (a .n) (a .out .now))
-    (same-number zero (take (a .n) (a .out .now)) (take (a .n) (a .v .now)) (length-take-le _ _ (p .0) ∙ sym (length-take-le _ _ (p .1)))
+    (same-number zero64 (take (a .n) (a .out .now)) (take (a .n) (a .v .now)) (length-take-le _ _ (p .0) ∙ sym (length-take-le _ _ (p .1)))
     ∙ normalized-no (take (a .n) (a .v .now)) _ _ (s .sum-squares .ensures) (f .is-finite .ensures) (t .if1 .left))
 
 pub normalize-into-spec : {M : Type 1} → statement M

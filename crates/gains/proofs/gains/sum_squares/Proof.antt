@@ -4,7 +4,7 @@ use mathlib.Core.Path.{_≡_, ap, _∙_}
 use native.Mathlib.Omega.{arith}
 use lib.Ieee.{binary64, nan, ofBits}
 use lib.ListN.{take}
-use Rattle.doubles.specs.Arithmetic.{zero}
+use Rattle.doubles.specs.Arithmetic.{zero64}
 use Rattle.doubles.specs.Norm.{sumSquares}
 use Rattle.gains.proofs.gains.Front.{fold-none, fold-more}
 use Rattle.gains.proofs.gains.sum_squares.Statement.{statement}
@@ -18,13 +18,13 @@ abbrev μ : tie.MeasureT-loop
 
 holds : tie.Need-loop-holds Inv μ
 unfolding ofBits
-holds c = (omega arith, fold-none binary64 zero)
+holds c = (omega arith, fold-none binary64 zero64)
 
 again : tie.Need-loop-again Inv μ
 again c =
     let l = c .before .before .before in
     let v = l .before .args .v .now in
-    (omega arith, rw (l .loop .inv .1) (fold-more binary64 zero v (l .loop .k) nan (omega arith)))
+    (omega arith, rw (l .loop .inv .1) (fold-more binary64 zero64 v (l .loop .k) nan (omega arith)))
 
 returns : tie.Need-returns Inv μ
 returns c =

@@ -6,7 +6,7 @@ use native.Mathlib.Omega.{arith}
 use borrow.Author.Needs.{needs}
 use borrow.Author.Tests.{not-true, not-false}
 use lib.Ieee.{Float, ofBits, lt, le}
-use Rattle.doubles.specs.Arithmetic.{zero}
+use Rattle.doubles.specs.Arithmetic.{zero64}
 use Rattle.field.specs.Knots.{steps}
 use Rattle.extent.proofs.Casts.{casts}
 use Rattle.gains.proofs.lookup.Cases.{at-first, at-last, at-no-number, found}
@@ -21,7 +21,7 @@ rising c = centre-rising (c .args .last) (c .pre)
 bounds : (c : tie.Start) → (1 ≤ c .args .last) × (c .args .last ≤ 34)
 bounds c = centre-bounds (c .args .last) (c .pre)
 
-positive : (c : tie.Else2) → lt zero (c .before .before .args .value) ≡ true
+positive : (c : tie.Else2) → lt zero64 (c .before .before .args .value) ≡ true
 unfolding ofBits
 positive c = not-false _ (c .if2 .left)
 

@@ -6,7 +6,7 @@ use native.Mathlib.Omega.{arith}
 use borrow.Author.Needs.{needs}
 use borrow.Author.Tests.{not-true, not-false}
 use lib.Ieee.{Float, ofBits, lt, le}
-use Rattle.doubles.specs.Arithmetic.{zero}
+use Rattle.doubles.specs.Arithmetic.{zero64}
 use Rattle.field.specs.Knots.{radiusKnot}
 use Rattle.gains.proofs.lookup.Cases.{at-first, at-last, at-no-number, found}
 use Rattle.gains.proofs.lookup.Comparing.{lt-same}
@@ -14,7 +14,7 @@ use Rattle.gains.proofs.lookup.Rising.{rising-radius}
 use Rattle.gains.proofs.lookup.radius_bracket.Statement.{statement}
 use Rattle.gains.proofs.lookup.radius_bracket.Tie as tie
 
-positive : (c : tie.Else2) → lt zero (c .before .before .args .value) ≡ true
+positive : (c : tie.Else2) → lt zero64 (c .before .before .args .value) ≡ true
 unfolding ofBits
 positive c = not-false _ (c .if2 .left)
 

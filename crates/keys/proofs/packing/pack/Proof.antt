@@ -29,10 +29,10 @@ returns c =
     let t = c .before .before in
     let k = t .before .before .before .before in
     let z = k .before .before .before .before .before .before in
-    let g = z .before .before .before .before in
+    let g = z .before .before .before in
     let l = g .args .l in
     let n = k .before .before .covered .ensures ∙ channel-count l (sized g) in
-    (rw (t .pack-topology .ensures .0, k .pack-channels .ensures, n) (key-written l (sized g) (g .args .epoch) _ (z .clear .ensures)), t .pack-topology .ensures .1)
+    rw (t .pack-topology .ensures, k .pack-channels .ensures, n) (key-written l (sized g) (g .args .epoch) _ (z .clear .ensures))
 
 pub pack-spec : {M : Type 1} → statement M
 pack-spec =

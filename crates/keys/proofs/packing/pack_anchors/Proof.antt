@@ -6,17 +6,18 @@ use native.Mathlib.Omega.{arith}
 use borrow.Author.Needs.{needs}
 use lib.ListN.{length, length-map, length-set, List·getD-map}
 use Rattle.lists.proofs.Loops.{long}
-use Rattle.layout.specs.Topology.{anchorName, anchorX, noAnchor}
-use Rattle.keys.specs.Keys.{xPattern}
-use Rattle.keys.proofs.KeyParts.{Packed, packed-none, packed-more, packed-done, Pasted, pasted-none, pasted-more, pasted-done}
+use Rattle.layout.specs.Topology.{anchorName}
+use Rattle.layout.specs.Steps.Starts.{noAnchor}
+use Rattle.keys.specs.Steps.{xPattern}
+use Rattle.keys.proofs.KeyParts.{Packed, packed-none, packed-more, packed-done}
 use Rattle.keys.proofs.packing.pack_anchors.Statement.{statement}
 use Rattle.keys.proofs.packing.pack_anchors.Tie as tie
 
 abbrev Inv : tie.InvT-loop
-Inv n key₀ places₀ v i₀ key places i = Packed 76 (map anchorName v) 128 (map xPattern v) n key₀ key i × Pasted 28 (map anchorX v) n places₀ places i
+Inv n key₀ v i₀ key i = Packed 76 (map anchorName v) 128 (map xPattern v) n key₀ key i
 
 abbrev μ : tie.MeasureT-loop
-μ n key₀ places₀ v i₀ key places i = n - i
+μ n key₀ v i₀ key i = n - i
 
 fits : (c : tie.Start Inv μ) → c .args .n ≤ length (c .args .t1)
 fits c =
@@ -25,20 +26,17 @@ fits c =
 
 holds : tie.Need-loop-holds Inv μ
 holds c =
-    let r = fits (c .before .before) in
-    (packed-none _ _ _ _ _ _ (rw length-map r) (rw length-map r) (omega arith) (omega arith), pasted-none _ _ _ _ (rw length-map r) (omega arith))
+    let r = fits (c .before) in
+    packed-none _ _ _ _ _ _ (rw length-map r) (rw length-map r) (omega arith) (omega arith)
 
 again : tie.Need-loop-again Inv μ
 again c =
     let v = c .before .before .before .loop in
-    let xs = c .before .before .before .before .before .before .args .t1 in
-    (packed-more _ _ _ _ _ _ (v .key) (v .i) _ _ _ _ _ _ (v .inv .0) (omega arith) (omega arith) refl (sym (List·getD-map anchorName xs (v .i) noAnchor)) (c .pattern-of .ensures ∙ sym (List·getD-map xPattern xs (v .i) noAnchor)), pasted-more _ _ _ _ (v .places) (v .i) _ (anchorX noAnchor) _ (v .inv .1) (omega arith) (omega arith) (sym (List·getD-map anchorX xs (v .i) noAnchor)))
+    let xs = c .before .before .before .before .before .args .t1 in
+    packed-more _ _ _ _ _ _ (v .key) (v .i) _ _ _ _ _ _ (v .inv) (omega arith) (omega arith) refl (sym (List·getD-map anchorName xs (v .i) noAnchor)) (c .pattern-of .ensures ∙ sym (List·getD-map xPattern xs (v .i) noAnchor))
 
 returns : tie.Need-returns Inv μ
-returns c =
-    let v = c .before .loop in
-    let e : v .i ≡ c .before .before .before .before .args .n = omega arith in
-    (packed-done _ _ _ _ _ _ _ _ (v .inv .0) (omega arith), pasted-done _ _ _ _ _ _ (v .inv .1) e)
+returns c = packed-done _ _ _ _ _ _ _ _ (c .before .loop .inv) (omega arith)
 
 pub pack-anchors-spec : {M : Type 1} → statement M
 pack-anchors-spec =
@@ -58,10 +56,6 @@ pack-anchors-spec =
     (λ c. simp length-set (omega arith))
     (λ c. search needs)
     (λ c. search needs)
-    (λ c. search needs)
-    (λ c. search needs)
-    (λ c. search needs)
     again
-    (λ c. search needs)
     (λ c. search needs)
     returns)

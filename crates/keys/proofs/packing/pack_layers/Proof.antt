@@ -7,18 +7,19 @@ use native.Mathlib.Omega.{arith}
 use borrow.Author.Needs.{needs}
 use lib.ListN.{length, getD, length-map, length-set, List·getD-map}
 use Rattle.lists.proofs.Loops.{long}
-use Rattle.layout.specs.Topology.{layerCount, layerZ, noLayer, startsFrom}
+use Rattle.layout.specs.Topology.{layerCount}
+use Rattle.layout.specs.Steps.Starts.{noLayer, startsFrom}
 use Rattle.layout.proofs.StartsFrom.{starts-first, starts-next}
-use Rattle.keys.specs.Keys.{zPattern}
-use Rattle.keys.proofs.KeyParts.{Packed, packed-none, packed-more, packed-done, Pasted, pasted-none, pasted-more, pasted-done}
+use Rattle.keys.specs.Steps.{zPattern}
+use Rattle.keys.proofs.KeyParts.{Packed, packed-none, packed-more, packed-done}
 use Rattle.keys.proofs.packing.pack_layers.Statement.{statement}
 use Rattle.keys.proofs.packing.pack_layers.Tie as tie
 
 abbrev Inv : tie.InvT-loop
-Inv n key₀ places₀ v rows₀ i₀ key places rows i = Packed 48 (map layerCount v) 100 (map zPattern v) n key₀ key i × Pasted 0 (map layerZ v) n places₀ places i × (rows ≡ getD (startsFrom 0 (map layerCount v)) i 0)
+Inv n key₀ v rows₀ i₀ key rows i = Packed 48 (map layerCount v) 100 (map zPattern v) n key₀ key i × (rows ≡ getD (startsFrom 0 (map layerCount v)) i 0)
 
 abbrev μ : tie.MeasureT-loop
-μ n key₀ places₀ v rows₀ i₀ key places rows i = n - i
+μ n key₀ v rows₀ i₀ key rows i = n - i
 
 fits : (c : tie.Start Inv μ) → c .args .n ≤ length (c .args .t1)
 fits c =
@@ -27,21 +28,21 @@ fits c =
 
 holds : tie.Need-loop-holds Inv μ
 holds c =
-    let r = fits (c .before .before) in
-    (packed-none _ _ _ _ _ _ (rw length-map r) (rw length-map r) (omega arith) (omega arith), pasted-none _ _ _ _ (rw length-map r) (omega arith), sym (starts-first 0 (map layerCount (c .before .before .args .t1))))
+    let r = fits (c .before) in
+    (packed-none _ _ _ _ _ _ (rw length-map r) (rw length-map r) (omega arith) (omega arith), sym (starts-first 0 (map layerCount (c .before .args .t1))))
 
 again : tie.Need-loop-again Inv μ
 again c =
     let v = c .before .before .before .before .loop in
-    let xs = c .before .before .before .before .before .before .before .args .t1 in
+    let xs = c .before .before .before .before .before .before .args .t1 in
     let j : v .i < length (map layerCount xs) = rw length-map (omega arith) in
-    (packed-more _ _ _ _ _ _ (v .key) (v .i) _ _ _ _ _ _ (v .inv .0) (omega arith) (omega arith) refl (sym (List·getD-map layerCount xs (v .i) noLayer)) (c .before .pattern-of .ensures ∙ sym (List·getD-map zPattern xs (v .i) noLayer)), pasted-more _ _ _ _ (v .places) (v .i) _ (layerZ noLayer) _ (v .inv .1) (omega arith) (omega arith) (sym (List·getD-map layerZ xs (v .i) noLayer)), rw (c .next-start .ensures, v .inv .2, add-one (v .i), ← List·getD-map layerCount xs (v .i) noLayer) (sym (starts-next 0 (map layerCount xs) (v .i) j)))
+    (packed-more _ _ _ _ _ _ (v .key) (v .i) _ _ _ _ _ _ (v .inv .0) (omega arith) (omega arith) refl (sym (List·getD-map layerCount xs (v .i) noLayer)) (c .before .pattern-of .ensures ∙ sym (List·getD-map zPattern xs (v .i) noLayer)), rw (c .next-start .ensures, v .inv .1, add-one (v .i), ← List·getD-map layerCount xs (v .i) noLayer) (sym (starts-next 0 (map layerCount xs) (v .i) j)))
 
 returns : tie.Need-returns Inv μ
 returns c =
     let v = c .before .loop in
-    let e : v .i ≡ c .before .before .before .before .args .n = omega arith in
-    (v .inv .2 ∙ rw e, (packed-done _ _ _ _ _ _ _ _ (v .inv .0) (omega arith), pasted-done _ _ _ _ _ _ (v .inv .1) e))
+    let e : v .i ≡ c .before .before .before .args .n = omega arith in
+    (v .inv .1 ∙ rw e, packed-done _ _ _ _ _ _ _ _ (v .inv .0) (omega arith))
 
 pub pack-layers-spec : {M : Type 1} → statement M
 pack-layers-spec =
@@ -59,12 +60,9 @@ pack-layers-spec =
     (λ c. search needs)
     (λ c. search needs)
     (λ c. simp length-set (omega arith))
-    (λ c. search needs)
-    (λ c. search needs)
     (λ c κs. search needs)
     (λ c. search needs)
     (λ c. search needs)
     again
-    (λ c. search needs)
     (λ c. search needs)
     returns)

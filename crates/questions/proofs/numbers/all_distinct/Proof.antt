@@ -22,7 +22,7 @@ returns c =
     let g = c .before .before .before .before in
     let a = g .before .before .args in
     let h : g .loop .i < length (a .v .now) = omega arith in
-    let t = ap not (before (a .v .now) (g .loop .i) h ∙ lt-ltb _ _ (rw (c .before .place-of .ensures) at (c .if1 .taken))) in
+    let t = ap not (before (a .v .now) (g .loop .i) h ∙ lt-ltb _ _ (rw (c .before .index-of .ensures) at (c .if1 .taken))) in
     sym (front-not (a .v .now) (g .loop .i) h (a .n) (omega arith) (front (a .v .now) (g .loop .i) h (g .loop .inv .2) ∙ t))
 
 again : tie.Need-loop-again Inv μ
@@ -30,7 +30,7 @@ again c =
     let g = c .before .before .before .before in
     let a = g .before .before .args in
     let h : g .loop .i < length (a .v .now) = omega arith in
-    let t = ap not (before (a .v .now) (g .loop .i) h ∙ le-ltb _ _ (rw (c .before .place-of .ensures) at (c .if1 .left))) in
+    let t = ap not (before (a .v .now) (g .loop .i) h ∙ le-ltb _ _ (rw (c .before .index-of .ensures) at (c .if1 .left))) in
     (omega arith, omega arith, front (a .v .now) (g .loop .i) h (g .loop .inv .2) ∙ t)
 
 returns-2 : tie.Need-returns-2 Inv μ

@@ -1,0 +1,3 @@
+pub mod EightKeys
+pub mod KeyCompare
+pub mod Later

@@ -1,0 +1,4 @@
+pub mod Columns
+pub mod Filling
+pub mod Flat
+pub mod Sums

@@ -1,4 +1,0 @@
-pub mod KeyCompare
-pub mod ActiveKeys
-pub mod Later
-pub mod Words
