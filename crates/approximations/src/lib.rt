@@ -1,6 +1,8 @@
 // Sine, cosine and the two approximations, each with an equation for its result on every double, and
 // powers of several values at once by them. The upper crates use only these promises and the laws of
 // proofs/Laws.antt.
+#![tactic(auto)]
+
 mod circular;
 mod exp2;
 mod log2;

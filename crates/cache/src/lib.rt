@@ -1,4 +1,6 @@
 // The eight places of a selector: questions 11 to 14, and keys looked for and put.
+#![tactic(auto)]
+
 mod places;
 mod questions;
 
@@ -6,7 +8,7 @@ pub use places::{find, next_place, put, turned};
 pub use questions::later_no;
 
 // What an accepted call says of its field.
-#[derive(Drop)]
+#[derive(Clone, Copy)]
 pub enum Word {
     Unused,
     Kept,
@@ -14,14 +16,14 @@ pub enum Word {
 }
 
 // How many keys a selector holds, and which place is the oldest.
-#[derive(Drop)]
+#[derive(Clone, Copy)]
 pub struct Ring {
     pub count: usize,
     pub oldest: usize,
 }
 
 // Where a key stands.
-#[derive(Drop)]
+#[derive(Clone, Copy)]
 pub enum Slot {
     At(usize),
     Missing,

@@ -1,5 +1,7 @@
 // The cases that document 01 marks with a star, as one table of the definitions, shown true as a
 // whole by one computation.
+#![tactic(auto)]
+
 ghost use Rattle.std.specs.Prelude.{◌≡◌, true};
 ghost use Rattle.lists.specs.Lists.{all_of};
 ghost use Rattle.cases.specs.Cases.{cases, holds};

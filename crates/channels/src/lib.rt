@@ -1,4 +1,6 @@
 // The channels of a layout: which are active, valid names, and the place of a name among others.
+#![tactic(auto)]
+
 mod channels;
 mod name;
 mod places;

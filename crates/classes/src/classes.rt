@@ -39,7 +39,7 @@ const LW: u64 = 0x774c;
 const RW: u64 = 0x7752;
 
 // The classes of a speaker; `classed` is false where its name has none.
-#[derive(Drop)]
+#[derive(Clone, Copy)]
 struct Classes {
     classed: bool,
     screen: bool,

@@ -1,10 +1,12 @@
 // Classes of speakers: which speakers a region keeps.
+#![tactic(auto)]
+
 mod classes;
 
 pub use classes::{is_flc, is_outside_five, matches_bed_state};
 
 // What a region does with a speaker of the bed: it keeps it or drops it, or the speaker has no class.
-#[derive(Drop)]
+#[derive(Clone, Copy)]
 pub enum BedMatch {
     Kept,
     Dropped,

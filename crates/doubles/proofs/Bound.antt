@@ -35,6 +35,7 @@ sum_fits f s (x ∷ xs) h = sum_fits f (add f s (mul f x x)) xs (add-fits f s (m
 
 sum-square : (f : Format) (s : Float) (v : List Float) (x : Float) → Memᴰ x v → T (clear s) → T (fits f s) → T (finite (fold_squares f s v)) → T (plain (mul f x x)) × (mag f (mul f x x) ≤ mag f (fold_squares f s v))
 unfolding fold_squares
+sum-square f s [] x m c h t = elim m [ ]
 sum-square f s (z ∷ zs) x (Memᴰ.head e) c h t =
     let y = mul f z z in
     let a = add f s y in

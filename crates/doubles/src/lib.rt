@@ -1,6 +1,8 @@
 // Doubles: floor, square root, powers of two, bit patterns and tests of range, each with an equation for
 // its result on every double. The upper crates use only these promises and the laws of
 // proofs/Laws.antt.
+#![tactic(auto)]
+
 mod bits;
 mod power;
 mod range;

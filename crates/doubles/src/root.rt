@@ -15,7 +15,7 @@ const NEAR: f64 = 9.0e-13;
 const LITTLE: f64 = 9.5367431640625e-7;
 
 // A root so far, and what is left: of n it is q with q * q + r = n and r <= 2 q.
-#[derive(Drop)]
+#[derive(Clone, Copy)]
 struct Part {
     q: u64,
     r: u64,

@@ -1,4 +1,5 @@
 // The loops that tools/bench times: each function of `doubles` over a slice, exported. They promise nothing.
+#![tactic(auto)]
 
 // The sum of the floors of v.
 #[unsafe(no_mangle)]

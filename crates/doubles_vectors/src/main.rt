@@ -2,6 +2,8 @@
 // hexadecimal digits, a double's bit pattern or an integer; the program writes the same letter and
 // the result. The letters: f floor, r sqrt, p pow2, q pow2_i32, g 2 to the power of floor_log2, s sine, c cosine,
 // e approx_exp2, l approx_log2, i is_finite, b is_between 0 and 1, k clamp to 0 and 1.
+#![tactic(auto)]
+
 use libc::{STDIN_FILENO, STDOUT_FILENO};
 
 // A letter, a space, 16 digits and a line feed.

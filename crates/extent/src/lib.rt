@@ -1,4 +1,6 @@
 // Reading an extent, the kernel and the shaping.
+#![tactic(auto)]
+
 mod kernel;
 mod radius;
 
@@ -6,7 +8,7 @@ pub use kernel::{ZERO_FIELD_THRESHOLD, compact_quartic_kernel, shaped, shaping_e
 pub use radius::{extent_radius, read_extent};
 
 // The three components of an extent.
-#[derive(Drop)]
+#[derive(Clone, Copy)]
 pub struct Extent {
     pub x: f64,
     pub y: f64,
@@ -15,7 +17,7 @@ pub struct Extent {
 
 // What reading an extent answers: the number of the question that refuses it, or its mean and its
 // radius.
-#[derive(Drop)]
+#[derive(Clone, Copy)]
 pub enum Reading {
     Refused(u64),
     Read(u64, f64),

@@ -9,6 +9,8 @@
 // Four commands write the bits of a double: d the radius of the scalar of that pattern, e the shaping exponent
 // of that radius, s the component x shaped with that exponent, and k the kernel at x about the centre y with
 // the radius z, on Z where the number is 1.
+#![tactic(auto)]
+
 use extent::{Extent, Reading};
 use libc::{STDIN_FILENO, STDOUT_FILENO};
 

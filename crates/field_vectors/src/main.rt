@@ -13,6 +13,8 @@
 //
 // Two commands are for timing: 923 fills place 0 that many times, and 941 projects over it that many
 // times, the centre moving a little each time.
+#![tactic(auto)]
+
 use extent::{Extent, Reading};
 use layout::{Anchor, Centre, Channel, Layout};
 use libc::{STDIN_FILENO, STDOUT_FILENO};
@@ -20,14 +22,14 @@ use libc::{STDIN_FILENO, STDOUT_FILENO};
 // Three digits, a space, 16 digits and a line feed.
 const LINE: usize = 21;
 
-#[derive(Drop)]
+#[derive(Clone, Copy)]
 pub struct State {
     pub now: Layout,
     pub name: u64,
 }
 
 // What a projection brings.
-#[derive(Drop)]
+#[derive(Clone, Copy)]
 pub struct Object {
     pub extent: Extent,
     pub centre: Centre,
@@ -260,7 +262,7 @@ fn gains_of(store: &[f64], l: Layout, o: Object, p: usize, mean: u64, radius: f6
 }
 
 // What the lines so far have set.
-#[derive(Drop)]
+#[derive(Clone, Copy)]
 pub struct Setting {
     pub state: State,
     pub object: Object,

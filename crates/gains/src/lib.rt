@@ -1,4 +1,6 @@
 // The gains of an object over a filled place of the store.
+#![tactic(auto)]
+
 mod diffuse;
 mod gains;
 mod knot_tables;
@@ -9,7 +11,7 @@ mod walls;
 pub use gains::project;
 
 // Two knots, and where a value stands between them.
-#[derive(Drop)]
+#[derive(Clone, Copy)]
 pub struct Bracket {
     pub lower: usize,
     pub upper: usize,
@@ -18,7 +20,7 @@ pub struct Bracket {
 
 // The nearest wall with its distance: on X and Y whether it is the far one, at 1; on Z it is the far
 // one always.
-#[derive(Drop)]
+#[derive(Clone, Copy)]
 pub enum Wall {
     X(bool, f64),
     Y(bool, f64),
@@ -26,7 +28,7 @@ pub enum Wall {
 }
 
 // The blend: point gains alone, both with two weights, or field alone.
-#[derive(Drop)]
+#[derive(Clone, Copy)]
 pub enum Blend {
     Point,
     Both(f64, f64),

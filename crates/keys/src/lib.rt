@@ -1,5 +1,7 @@
 // Keys: a layout and an epoch packed into 156 numbers, in one way only, so that equal keys are equal
 // numbers; and the layout in a key.
+#![tactic(auto)]
+
 mod active;
 mod packing;
 mod unpacking;

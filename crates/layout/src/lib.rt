@@ -3,46 +3,48 @@
 // Everything is flat: the rows stand layer after layer and the anchors row after row, each layer
 // with the count of its rows and each row with the count of its anchors. Fields are public, and any
 // value may stand in them: the questions look at a count before anything is read by it.
+#![tactic(auto)]
+
 mod build;
 mod starts;
 
 pub use starts::{anchor_starts, anchor_total, covered_layers, next_start, row_starts, row_total};
 
 // A name is up to eight bytes, the first one lowest, with zeros behind.
-#[derive(Drop)]
+#[derive(Clone, Copy)]
 pub struct Channel {
     pub name: u64,
     pub enabled: bool,
     pub lfe: bool,
 }
 
-#[derive(Drop)]
+#[derive(Clone, Copy)]
 pub struct Anchor {
     pub name: u64,
     pub x: f64,
 }
 
-#[derive(Drop)]
+#[derive(Clone, Copy)]
 pub struct Row {
     pub y: f64,
     pub count: usize,
 }
 
-#[derive(Drop)]
+#[derive(Clone, Copy)]
 pub struct Layer {
     pub z: f64,
     pub count: usize,
 }
 
 // Where an object stands in a room.
-#[derive(Drop)]
+#[derive(Clone, Copy)]
 pub struct Centre {
     pub x: f64,
     pub y: f64,
     pub z: f64,
 }
 
-#[derive(Drop)]
+#[derive(Clone, Copy)]
 pub struct Layout {
     pub channels: [Channel; 24],
     pub used: usize,

@@ -10,13 +10,15 @@
 // is no and how many active channels, rows and anchors there are, 921 whether the layout has the key
 // of the one put aside, 922 the place of that name among the active channels, or their number where
 // it is none of them.
+#![tactic(auto)]
+
 use layout::{Anchor, Channel, Layout};
 use libc::{STDIN_FILENO, STDOUT_FILENO};
 
 // Three digits, a space, 16 digits and a line feed.
 const LINE: usize = 21;
 
-#[derive(Drop)]
+#[derive(Clone, Copy)]
 pub struct State {
     pub now: Layout,
     pub aside: Layout,

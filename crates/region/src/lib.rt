@@ -1,4 +1,6 @@
 // Regions: what the zone flags say.
+#![tactic(auto)]
+
 ghost use Rattle.std.specs.Prelude.{◌≡◌};
 ghost use Rattle.region.specs.Zones.{default_state};
 
@@ -6,7 +8,7 @@ mod flags;
 
 pub use flags::{from_decoded_zones, is_default, is_include, to_decoded_zones};
 
-#[derive(Drop)]
+#[derive(Clone, Copy)]
 pub enum RegionHorizontalState {
     NoConstraints,
     BackExcluded,
@@ -16,14 +18,14 @@ pub enum RegionHorizontalState {
     SurroundOnly,
 }
 
-#[derive(Drop)]
+#[derive(Clone, Copy)]
 pub enum RegionTopBottomState {
     Include,
     Exclude,
 }
 
 // A horizontal state with a top state beside it.
-#[derive(Drop)]
+#[derive(Clone, Copy)]
 pub struct RegionSemanticState {
     pub horizontal: RegionHorizontalState,
     pub top: RegionTopBottomState,
@@ -44,7 +46,7 @@ impl RegionSemanticState {
 }
 
 // What six flags say: a state, or the number of the refusal.
-#[derive(Drop)]
+#[derive(Clone, Copy)]
 pub enum Zones {
     State(RegionSemanticState),
     Refused(u64),

@@ -9,6 +9,8 @@
 // speaker of that name, without five-x and with it: 0 dropped, 1 kept, 2 no class. 912 selects by a
 // state, the number of the horizontal state doubled and 1 more where top is Include: it writes the
 // refusal, and where that is 0 how many layers, rows and anchors are selected and a hash over them.
+#![tactic(auto)]
+
 use classes::BedMatch;
 use layout::{Anchor, Channel, Layout};
 use libc::{STDIN_FILENO, STDOUT_FILENO};
@@ -17,7 +19,7 @@ use region::{RegionHorizontalState, RegionSemanticState, RegionTopBottomState, Z
 // Three digits, a space, 16 digits and a line feed.
 const LINE: usize = 21;
 
-#[derive(Drop)]
+#[derive(Clone, Copy)]
 pub struct State {
     pub now: Layout,
     pub name: u64,

@@ -1,4 +1,6 @@
 // What the programs that replay answers share: numbers read from a line of text.
+#![tactic(auto)]
+
 ghost use Rattle.std.specs.Prelude.{◌≡◌};
 ghost use Rattle.replay.specs.Hex.{digit_of, hex_of, three_of, packed_of};
 

@@ -138,14 +138,14 @@ fn room(word: u64, line: &[u8], length: usize, at: usize, s: Scene) -> Step {
 }
 
 // Vector doubles.
-#[derive(Drop)]
+#[derive(Clone, Copy)]
 pub struct Vector {
     pub x: f64,
     pub y: f64,
     pub z: f64,
 }
 
-#[derive(Drop)]
+#[derive(Clone, Copy)]
 enum Parsed {
     Of(Vector),
     Bad,
@@ -236,7 +236,7 @@ fn zones(line: &[u8], length: usize, at: usize, s: Scene) -> Step {
 }
 
 // What is read of the point gains: the next byte, whether there was a double, and its value.
-#[derive(Drop)]
+#[derive(Clone, Copy)]
 pub struct Point {
     pub good: bool,
     pub last: bool,

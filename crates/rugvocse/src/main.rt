@@ -1,4 +1,6 @@
 // Scene scripts in, gains out.
+#![tactic(auto)]
+
 ghost use Rattle.std.specs.Prelude.{◌≤◌};
 
 mod commands;
@@ -11,7 +13,7 @@ use libc::STDIN_FILENO;
 use scene::Scene;
 
 // How much of a line is read, which line it is, and whether it has begun.
-#[derive(Drop)]
+#[derive(Clone, Copy)]
 pub struct Cursor {
     pub length: usize,
     pub number: u64,
@@ -19,7 +21,7 @@ pub struct Cursor {
 }
 
 // What the lines so far have set, and the line at hand.
-#[derive(Drop)]
+#[derive(Clone, Copy)]
 pub struct Play {
     pub cursor: Cursor,
     pub scene: Scene,

@@ -1,13 +1,13 @@
 // Numbers and names of a script.
 use crate::text::{Class, Token, are_of, byte, packed, size, wide};
 
-#[derive(Drop)]
+#[derive(Clone, Copy)]
 pub enum Natural {
     Number(u64),
     Bad,
 }
 
-#[derive(Drop)]
+#[derive(Clone, Copy)]
 pub enum Real {
     Value(f64),
     Bad,
@@ -77,7 +77,7 @@ fn pattern(line: &[u8], t: Token) -> Natural {
 
 // What is read of a decimal: its digits as a number over a power of ten, how many before and after
 // the point, and whether the point was there.
-#[derive(Drop)]
+#[derive(Clone, Copy)]
 struct Draft {
     good: bool,
     number: u64,

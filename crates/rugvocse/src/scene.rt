@@ -7,7 +7,7 @@ use layout::{Centre, Layout};
 use selector::{Selector, SelectorReply};
 
 // What later calls bring. `rowed`: the last layer has a row.
-#[derive(Drop)]
+#[derive(Clone, Copy)]
 pub struct Scene {
     pub layout: Layout,
     pub rowed: bool,
@@ -23,7 +23,7 @@ pub struct Scene {
 }
 
 // A scene, and whether the line could be read.
-#[derive(Drop)]
+#[derive(Clone, Copy)]
 pub struct Step {
     pub good: bool,
     pub scene: Scene,

@@ -1,12 +1,12 @@
 // Tokens of a line.
-#[derive(Drop)]
+#[derive(Clone, Copy)]
 pub struct Token {
     pub from: usize,
     pub to: usize,
 }
 
 // The classes of bytes that a token can be made of.
-#[derive(Drop)]
+#[derive(Clone, Copy)]
 pub enum Class {
     Plain,
     Hex,

@@ -1,4 +1,6 @@
 // Rules: how a layer keeps its anchors under a region state.
+#![tactic(auto)]
+
 mod bed;
 mod rule;
 

@@ -10,7 +10,7 @@ use classes::{BedMatch, matches_bed_state};
 use region::{RegionHorizontalState, RegionSemanticState, is_include};
 
 // How a layer keeps its anchors: an upper one goes or stays whole, others keep all or go by class.
-#[derive(Drop)]
+#[derive(Clone, Copy)]
 pub struct Rule {
     upper: bool,
     include: bool,

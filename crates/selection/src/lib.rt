@@ -1,4 +1,6 @@
 // The room that a region state selects, made in place in a key.
+#![tactic(auto)]
+
 mod flags;
 mod selection;
 

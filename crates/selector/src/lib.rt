@@ -1,4 +1,6 @@
 // The selector: eight kept fields, and the call for gains.
+#![tactic(auto)]
+
 ghost use Rattle.std.specs.Prelude.{◌≡◌};
 ghost use Rattle.selector.specs.Call.{outcome_of, found_in, fresh_selector};
 ghost use Rattle.selector.specs.Steps.{answer_to, selector_of};
@@ -12,21 +14,21 @@ use extent::Extent;
 use layout::{Centre, Layout};
 
 // The answer of a call: the number of the refusal, or how many gains and a word.
-#[derive(Drop)]
+#[derive(Clone, Copy)]
 pub enum Outcome {
     Refused(u64),
     Gains(usize, Word),
 }
 
 // What a call answers, with the ring that it leaves.
-#[derive(Drop)]
+#[derive(Clone, Copy)]
 pub struct Reply {
     pub outcome: Outcome,
     pub ring: Ring,
 }
 
 // A selector: the numbers of eight keys, 156 to a key, how many are held, and the oldest place.
-#[derive(Drop)]
+#[derive(Clone, Copy)]
 pub struct Selector {
     pub keys: [u64; 1248],
     pub count: usize,
@@ -34,7 +36,7 @@ pub struct Selector {
 }
 
 // What a call answers, with the selector that it leaves.
-#[derive(Drop)]
+#[derive(Clone, Copy)]
 pub struct SelectorReply {
     pub outcome: Outcome,
     pub selector: Selector,
@@ -96,7 +98,7 @@ impl Selector {
 
 // What the questions before question 11 leave of a call: the number of the first no, or the mean and
 // the radius.
-#[derive(Drop)]
+#[derive(Clone, Copy)]
 enum Plan {
     Refused(u64),
     Wide(u64, f64),

@@ -7,6 +7,8 @@
 // many calls of one epoch, so that all but the first find their field, and 952 that many of epochs
 // that go down by one, so that each builds its field; both on a fresh selector. The last number of
 // keys held is written.
+#![tactic(auto)]
+
 use extent::Extent;
 use layout::{Anchor, Centre, Channel, Layout};
 use libc::{STDIN_FILENO, STDOUT_FILENO};
@@ -15,7 +17,7 @@ use selector::Ring;
 // Three digits, a space, 16 digits and a line feed.
 const LINE: usize = 21;
 
-#[derive(Drop)]
+#[derive(Clone, Copy)]
 pub struct Room {
     pub layout: Layout,
     pub name: u64,

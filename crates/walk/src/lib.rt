@@ -1,4 +1,6 @@
 // A layout's topology as lists of numbers, for the code that walks it.
+#![tactic(auto)]
+
 ghost use Rattle.std.specs.Prelude.{◌≡◌, map};
 ghost use Rattle.layout.specs.Topology.{layer_z, row_y, anchor_x, anchor_name};
 ghost use Rattle.layout.specs.Steps.Starts.{layer_starts, anchor_index};
