@@ -1,0 +1,17 @@
+-- `approximations::exp2::exp2_near` meets its contract, by `proofs/exp2/Ranges.antt` and `Finite.antt`. Assumes nothing.
+use Rattle.std.proofs.Common.{T, sym, subst, rules}
+use lib.Ieee.{Float, binary64, fits}
+use Rattle.approximations.specs.Exp2.{NormalExponent}
+use Rattle.approximations.proofs.exp2.Finite.{near-is}
+use Rattle.approximations.proofs.exp2.Ranges.{in-range, exponent}
+use Rattle.approximations.proofs.exp2.exp2_near.Goals as goal
+
+pub power_near-requires : goal.power_near-requires
+power_near-requires c =
+    let r = in-range c.args.value (subst T (sym c.well_formed.0.1) tt) c.requires.t c.requires.t_2 in
+    subst NormalExponent (sym (c.floor_near-n.ensures.near r.0 r.1)) (exponent c.args.value (subst T (sym c.well_formed.0.1) tt) c.requires.t c.requires.t_2)
+
+pub returns : goal.returns
+returns c =
+    let r = in-range c.args.value (subst T (sym c.well_formed.0.1) tt) c.requires.t c.requires.t_2 in
+    rw (c.power_near.ensures, c.polynomial.ensures, c.floor_near-n.ensures.near r.0 r.1) (near-is c.args.value (subst T (sym c.well_formed.0.1) tt) c.requires.t c.requires.t_2)

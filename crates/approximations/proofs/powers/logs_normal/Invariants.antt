@@ -1,0 +1,13 @@
+use Rattle.std.proofs.Common.{◌≡◌, ◌-◌, ◌≤◌, T, length, get_or, refl, arith, length-set, rules}
+use lib.Ieee.{Float, nan}
+use Rattle.doubles.specs.Arithmetic.{◌⊗◌}
+use Rattle.approximations.specs.Log2.{log2_of, in_normal}
+use Rattle.approximations.specs.Powers.{map_first}
+use Rattle.approximations.proofs.FirstMapped.{first-at, first_more, each_at}
+use Rattle.approximations.proofs.powers.logs_normal.Given as goal
+
+abbrev pub invariant-loop-i : goal.invariant-loop-i
+invariant-loop-i l = (l.i ≤ l.n) × (l.y ≡ map_first l.i (λ (v : Float). l.exponent ⊗ log2_of v) l.initial.y) × (length l.y ≡ length l.initial.y)
+
+abbrev pub decreases-loop-i : goal.decreases-loop-i
+decreases-loop-i l = l.n - l.i

@@ -1,0 +1,15 @@
+-- By whether there is a place for the channel.
+use mathlib.Core.Path.{◌≡◌}
+use mathlib.Core.Logic.{⊎_elim}
+use lib.ListN.{length}
+use borrow.Author.Rules.{rules}
+use Rattle.lists.proofs.Loops.{long}
+use Rattle.layout.proofs.build.Places.{put-here, put-past}
+use Rattle.layout.proofs.Layout.with_channel.Goals as goal
+use Rattle.layout.proofs.Layout.with_channel.Goals.{then-at-lt24, else-at-lt24}
+
+pub returns : goal.returns
+returns c =
+    let s = c.args.self in
+    let e : length s.channels ≡ 24 = search (rules, long) in
+    elim c.if-at-lt24.branch [ then-at-lt24 w ↦ rw (w.l-is, c.one_more.ensures, put-here s.channels s.used c.args.c 24 e w.if-at-lt24.true) | else-at-lt24 w ↦ rw (w.l-is, c.one_more.ensures, put-past s.channels s.used c.args.c 24 e w.if-at-lt24.false) ]
