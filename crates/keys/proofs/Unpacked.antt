@@ -1,5 +1,4 @@
 -- The entries of a list that is put together from two parts of a key, and the loop that writes it.
-use denote.Slice.{shr_slice_at}
 use Prim.Native.Nat.{ℕ, ◌+◌, ◌≤◌, ◌<◌}
 use mathlib.Core.Path.{◌≡◌, sym, ap, ap₂, ◌∙◌}
 use mathlib.Core.List.{List}
@@ -12,8 +11,8 @@ use Rattle.lists.proofs.Fill.{Filled, fill_none, fill_more}
 use Rattle.lists.proofs.Zips.{zip_length, zip-at}
 
 module _ {A : Type 0} (g : ℕ → ℕ → A) where
-  shr_slice_at : (key : List ℕ) (a n i : ℕ) → i < n → get_or (slice a (a + n) key) i 0 ≡ get_or key (a + i) 0
-  shr_slice_at key a n i h = ap (λ (l : List ℕ). get_or l i 0) (slice-take a n key) ∙ get_or-take n (drop a key) i 0 h ∙ get_or-drop a key i 0
+  slice-at : (key : List ℕ) (a n i : ℕ) → i < n → get_or (slice a (a + n) key) i 0 ≡ get_or key (a + i) 0
+  slice-at key a n i h = ap (λ (l : List ℕ). get_or l i 0) (slice-take a n key) ∙ get_or-take n (drop a key) i 0 h ∙ get_or-drop a key i 0
 
   module _ (key : List ℕ) (a b n : ℕ) (h : a + n ≤ length key) (k : b + n ≤ length key) where
     as_long : length (slice a (a + n) key) ≡ length (slice b (b + n) key)
@@ -25,4 +24,4 @@ module _ {A : Type 0} (g : ℕ → ℕ → A) where
     pub parts_more : (out : List A) (i : ℕ) (x : A) → Filled n (zip_with g (slice a (a + n) key) (slice b (b + n) key)) out i → i < n → x ≡ g (get_or key (a + i) 0) (get_or key (b + i) 0) → Filled n (zip_with g (slice a (a + n) key) (slice b (b + n) key)) (set out i x) (i + 1)
     parts_more out i x w j e =
         fill_more n _ out i (g 0 0) x w j
-        (e ∙ sym (zip-at g (slice a (a + n) key) (slice b (b + n) key) i 0 0 (omega (arith, length-slice a (a + n) key h)) as_long ∙ ap₂ g (shr_slice_at key a n i j) (shr_slice_at key b n i j)))
+        (e ∙ sym (zip-at g (slice a (a + n) key) (slice b (b + n) key) i 0 0 (omega (arith, length-slice a (a + n) key h)) as_long ∙ ap₂ g (slice-at key a n i j) (slice-at key b n i j)))

@@ -13,11 +13,7 @@ use Rattle.layout.specs.Steps.Starts.{starts_from}
 use Rattle.layout.proofs.Sizes.{Sized, rows_fit, anchors-fit}
 use Rattle.layout.proofs.StartsFrom.{starts-used}
 use Rattle.keys.specs.Steps.{z_pattern, y_pattern, x_pattern, two_parts, topology_parts}
-use Rattle.keys.proofs.packing.pack_topology.Statement.{statement}
-use Rattle.keys.proofs.packing.pack_topology.Tie as tie
-
-sized : (c : tie.Start) → Sized c.args.l
-sized c = search (rules, long)
+use Rattle.keys.proofs.packing.pack_topology.Goals as goal
 
 module _ (l : Layout) (s : Sized l) where
   layer-count : min l.depth 4 ≡ length (used_layers l)
@@ -31,35 +27,24 @@ module _ (l : Layout) (s : Sized l) where
       let e : length (used_rows l) ≡ min (total (map layer_count (used_layers l))) 24 = rw (← s.rows) (length-take _ l.rows) in
       rw e (starts-used row_count 24 (total (map layer_count (used_layers l))) l.rows l.anchors s.rows s.anchors)
 
--- the way back to the start
-abbrev start : tie.After-pack-layers → tie.Start
-start c = c.before.before.before.before.before.before.before
+module _ (l : Layout) (s : Sized l) (d r : ℕ) (e : d ≡ min l.depth 4) (f : r ≡ get_or (starts_from 0 (map layer_count l.layers)) d 0) where
+  rows_are : r ≡ length (used_rows l)
+  rows_are = f ∙ ap (λ (n : ℕ). get_or (starts_from 0 (map layer_count l.layers)) n 0) e ∙ row_count_lem l s
 
-rows_are : (c : tie.After-pack-layers) → c.pack-layers.result ≡ length (used_rows (start c).args.l)
-rows_are c =
-    c.pack-layers.ensures.0
-    ∙ ap (λ (n : ℕ). get_or (starts_from 0 (map layer_count (start c).args.l.layers)) n 0) c.before.before.covered-layers.ensures
-    ∙ row_count_lem _ (sized (start c))
+  anchors-are : (a : ℕ) → a ≡ get_or (starts_from 0 (map row_count l.rows)) r 0 → a ≡ length (used_anchors l)
+  anchors-are a g = g ∙ ap (λ (n : ℕ). get_or (starts_from 0 (map row_count l.rows)) n 0) rows_are ∙ anchor-count l s
 
-abbrev layers_done : tie.After-pack-rows → tie.After-pack-layers
-layers_done c = c.before.before.before.before
+pub pack_rows-a-requires : goal.pack_rows-a-requires
+pack_rows-a-requires c =
+    let l = c.args.l in
+    let s : Sized l = search (rules, long) in
+    (omega (arith, rows_are l s _ _ c.covered_layers.ensures c.pack_layers-r.ensures.value, rows_fit l s), search rules)
 
-anchors-are : (c : tie.After-pack-rows) → c.pack-rows.result ≡ length (used_anchors (start (layers_done c)).args.l)
-anchors-are c =
-    let g = start (layers_done c) in
-    c.pack-rows.ensures.0
-    ∙ ap (λ (n : ℕ). get_or (starts_from 0 (map row_count g.args.l.rows)) n 0) (rows_are (layers_done c))
-    ∙ anchor-count _ (sized g)
-
-rows-requires : tie.Need-pack-rows-requires
-rows-requires c κs =
-    let a = c.before.before.before in
-    (omega (arith, rows_are a, rows_fit _ (sized (start a))), search rules)
-
-anchors-requires : tie.Need-pack-anchors-requires
-anchors-requires c κs =
-    let a = c.before.before.before in
-    (omega (arith, anchors-are a, anchors-fit _ (sized (start (layers_done a)))), search rules)
+pub pack_anchors-requires : goal.pack_anchors-requires
+pack_anchors-requires c =
+    let l = c.args.l in
+    let s : Sized l = search (rules, long) in
+    (omega (arith, anchors-are l s _ _ c.covered_layers.ensures c.pack_layers-r.ensures.value _ c.pack_rows-a.ensures.value, anchors-fit l s), search rules)
 
 -- three keys, each from the one before
 three : (l : Layout) (k₀ k₁ k₂ k₃ : List ℕ) (d r a : ℕ)
@@ -71,14 +56,11 @@ three : (l : Layout) (k₀ k₁ k₂ k₃ : List ℕ) (d r a : ℕ)
 unfolding topology_parts
 three l k₀ k₁ k₂ k₃ d r a p q s e f g = rw (g, f, e, p, q, s)
 
-returns : tie.Need-returns
+pub returns : goal.returns
 returns c =
-    let a = c.before.before in
-    let r = a.before.before.before.before in
-    let y = layers_done r in
-    let d = y.before.before.covered-layers.ensures ∙ layer-count _ (sized (start y)) in
-    three (start y).args.l _ _ _ _ _ _ _ d (rows_are y) (anchors-are r) y.pack-layers.ensures.1 r.pack-rows.ensures.1 a.pack-anchors.ensures
-
-pub pack-topology-spec : {M : Type 1} → statement M
-pack-topology-spec =
-    tie.close (tie.spec (λ c κs. search rules) (λ c κs. search rules) rows-requires anchors-requires (λ c. search rules) returns)
+    let l = c.args.l in
+    let s : Sized l = search (rules, long) in
+    let d = c.covered_layers.ensures in
+    let r = c.pack_layers-r.ensures in
+    let a = c.pack_rows-a.ensures in
+    three l _ _ _ _ _ _ _ (d ∙ layer-count l s) (rows_are l s _ _ d r.value) (anchors-are l s _ _ d r.value _ a.value) r.key a.key c.pack_anchors.ensures

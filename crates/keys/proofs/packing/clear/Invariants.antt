@@ -1,0 +1,13 @@
+use Prim.Native.Nat.{◌-◌}
+use mathlib.Core.Path.{refl, sym}
+use native.Mathlib.Omega.{arith}
+use borrow.Author.Rules.{rules}
+use lib.ListN.{replicate, get_or-replicate}
+use Rattle.lists.proofs.Fill.{Filled, fill_none, fill_more, fill_done}
+use Rattle.keys.proofs.packing.clear.Given as goal
+
+abbrev pub invariant-loop-i : goal.invariant-loop-i
+invariant-loop-i l = Filled 156 (replicate 156 0) l.key l.i
+
+abbrev pub decreases-loop-i : goal.decreases-loop-i
+decreases-loop-i l = 156 - l.i

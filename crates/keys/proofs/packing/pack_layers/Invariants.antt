@@ -1,0 +1,20 @@
+use Prim.Native.Nat.{◌-◌, ◌<◌, ◌≤◌}
+use mathlib.Core.Path.{◌≡◌, refl, sym, ◌∙◌}
+use mathlib.Core.List.{map}
+use native.Mathlib.Numerals.{add-one}
+use native.Mathlib.Omega.{arith}
+use borrow.Author.Rules.{rules}
+use lib.ListN.{length, get_or, length-map, length-set, get_or-map}
+use Rattle.lists.proofs.Loops.{long}
+use Rattle.layout.specs.Topology.{layer_count}
+use Rattle.layout.specs.Steps.Starts.{no_layer, starts_from}
+use Rattle.layout.proofs.StartsFrom.{starts_first, starts-next}
+use Rattle.keys.specs.Steps.{z_pattern}
+use Rattle.keys.proofs.KeyParts.{Packed, packed_none, packed_more, packed-done}
+use Rattle.keys.proofs.packing.pack_layers.Given as goal
+
+abbrev pub invariant-loop-i : goal.invariant-loop-i
+invariant-loop-i l = Packed 48 (map layer_count l.v) 100 (map z_pattern l.v) l.n l.initial.key l.key l.i × (l.rows ≡ get_or (starts_from 0 (map layer_count l.v)) l.i 0)
+
+abbrev pub decreases-loop-i : goal.decreases-loop-i
+decreases-loop-i l = l.n - l.i
