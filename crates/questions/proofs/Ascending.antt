@@ -29,6 +29,7 @@ in-room (fin s m e) = refl
 -- ---- what lies above one that is at least -1, and below one that is at most 1
 or_left : (a b : Bool) → T a → T (a || b)
 or_left true b h = tt
+or_left false b h = elim h [ ]
 
 above : (x y : Float) → T (fits binary64 x) → T (le minus_one64 x) → T (lt x y) → T (le minus_one64 y)
 unfolding le fits

@@ -1,0 +1,17 @@
+use Prim.Native.Nat.{◌+◌, ◌≤◌, ◌-◌}
+use mathlib.Core.Path.{◌≡◌, sym, ap}
+use native.Mathlib.Omega.{arith}
+use borrow.Author.Rules.{rules}
+use borrow.Author.Tests.{eq-eqb, ne_eqb}
+use lib.Dec.{eqb}
+use lib.ListN.{length}
+use lib.Seq.{slice}
+use Rattle.lists.specs.Lists.{any_of}
+use Rattle.questions.proofs.Runs.{left, left-all, left-more, left-done}
+use Rattle.questions.proofs.parts.any_active.Given as goal
+
+abbrev pub invariant-loop-i : goal.invariant-loop-i
+invariant-loop-i l = (l.i ≤ l.n) × (24 + l.n ≤ length l.key) × (any_of (eqb 1) (left l.key 24 l.n l.i) ≡ any_of (eqb 1) (slice 24 (24 + l.n) l.key))
+
+abbrev pub decreases-loop-i : goal.decreases-loop-i
+decreases-loop-i l = l.n - l.i
