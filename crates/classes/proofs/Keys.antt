@@ -1,4 +1,4 @@
--- A `match` on a number n. An arm that lists keys is handed `c.match.keys1 : OneOf ks n`, and the default arm, for each arm, `OneOf ks n → ⊥`.
+-- A `match` on a number n. An arm that lists keys, the first of them k, is handed `c.in-k.is : OneOf ks n`, and the default arm, for each arm, `OneOf ks n → ⊥`, which `search` finds.
 -- The keys of an arm come in ascending order, so the lists of specs/ are in that order too.
 use Prim.Native.Nat.{ℕ}
 use mathlib.Core.Path.{◌≡◌, refl, sym, ap, ◌∙◌}

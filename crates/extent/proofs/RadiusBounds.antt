@@ -1,11 +1,11 @@
 -- The radius between two knots is from 0 to that of the second: each operation rounds no higher than the same operation at the second knot. Assumes nothing.
 use mathlib.Core.Path.{◌≡◌, refl, ap, ◌∙◌, subst}
-use Prim.Native.Nat.{ℕ, zero, suc, ◌-◌, ◌*◌, ◌≤◌, ◌<◌}
+use Prim.Native.Nat.{ℕ, zero, suc, ◌*◌, ◌≤◌, ◌<◌}
 use native.Mathlib.Nat.{lt_irrefl}
 use native.Mathlib.Omega.{arith}
 use mathlib.Core.Bool.{Bool, true, false, not, cond}
 use lib.IntN.{pos, negsuc}
-use lib.Dec.{T, ltb, eqb, ltb→lt, eqb-suc-zero}
+use lib.Dec.{T, eqb, ltb→lt, eqb-suc-zero}
 use lib.Ieee.{Float, nan, inf, fin, binary64, up, down, round, mul, div, lt, le, eq}
 use lib.Ieee.Order.{le_of_values, round_mono}
 use lib.Ieee.Exact.{HasValue}

@@ -1,0 +1,12 @@
+use mathlib.Core.Path.{sym, ap, ◌∙◌}
+use Rattle.rules.specs.Rules.{is_kept}
+use Rattle.rules.proofs.rule.is_kept.Goals as goal
+
+pub returns-in-Kept : goal.returns-in-Kept
+returns-in-Kept c = ap is_kept (sym c.in-Kept.is ∙ c.matches_bed_state-b.ensures)
+
+pub returns-in-Dropped : goal.returns-in-Dropped
+returns-in-Dropped c = ap is_kept (sym c.in-Dropped.is ∙ c.matches_bed_state-b.ensures)
+
+pub returns-in-Unclassed : goal.returns-in-Unclassed
+returns-in-Unclassed c = ap is_kept (sym c.in-Unclassed.is ∙ c.matches_bed_state-b.ensures)
