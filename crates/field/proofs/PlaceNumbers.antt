@@ -55,7 +55,7 @@ place-clear t lower upper = place-has (λ (x : Float). T (clear x)) tt t (λ a i
 added-fits : (s : Float) (name : ℕ) (ws : List Weight) → T (fits binary64 s) → T (fits binary64 (added_up s name ws))
 unfolding added_up
 added-fits s name [] h = h
-added-fits s name (w ∷ ws) h = added-fits _ name ws (go (eqb w.name name))
+added-fits s name (w ∷ ws) h = added-fits (cond (eqb w.name name) (s ⊕ w.weight) s) name ws (go (eqb w.name name))
   where
     go : (b : Bool) → T (fits binary64 (cond b (s ⊕ w.weight) s))
     go true = add-fits s w.weight

@@ -195,7 +195,7 @@ module _ (u : Float) (fu : T (fits binary64 u)) (lo : T (le zero64 u)) (hi : T (
 added-clear : (s : Float) (name : ℕ) (ws : List Weight) → T (clear s) → T (all_of unit_weight ws) → T (clear (added_up s name ws))
 unfolding added_up
 added-clear s name [] c h = c
-added-clear s name (w ∷ ws) c h = added-clear _ name ws (go (eqb w.name name)) (and_r (unit_weight w) (all_of unit_weight ws) h)
+added-clear s name (w ∷ ws) c h = added-clear (cond (eqb w.name name) (s ⊕ w.weight) s) name ws (go (eqb w.name name)) (and_r (unit_weight w) (all_of unit_weight ws) h)
   where
     x : Float
     x = w.weight

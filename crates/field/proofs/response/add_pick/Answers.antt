@@ -1,0 +1,34 @@
+-- `field::response::add_pick` meets its contract: each arm knows its constructor. Assumes nothing.
+use mathlib.Core.Path.{sym, ap, ◌∙◌}
+use native.Mathlib.Omega.{arith}
+use borrow.Author.Rules.{rules}
+use lib.Ieee.{of_bits}
+use Rattle.field.specs.Steps.Flat.{pick_added, pick_end}
+use Rattle.field.proofs.response.Parts.{parted}
+use Rattle.field.proofs.response.add_pick.Goals as goal
+
+pub add_part-requires : goal.add_part-requires
+add_part-requires c =
+    (c.requires.0, parted c.args.at.now c.args.parts.now _ _ _ c.in-One.is (omega arith) c.requires.1)
+
+pub add_part-requires-in-Two : goal.add_part-requires-in-Two
+add_part-requires-in-Two c =
+    (c.requires.0, parted c.args.at.now c.args.parts.now _ _ _ c.in-Two.is (omega arith) c.requires.1)
+
+pub overflow_add-i : goal.overflow_add-i
+overflow_add-i c =
+    omega (arith, c.requires.1.many, ap pick_end c.in-Two.is, c.well_formed)
+
+pub add_part-requires-in-Two-2 : goal.add_part-requires-in-Two-2
+add_part-requires-in-Two-2 c =
+    (omega (arith, c.requires.0, c.add_part-in-Two.auto.out), parted c.args.at.now c.args.parts.now _ _ _ c.in-Two.is (omega arith) c.requires.1)
+
+pub returns-in-One : goal.returns-in-One
+unfolding pick_added of_bits
+returns-in-One c =
+    c.add_part.ensures ∙ sym (rw c.in-One.is)
+
+pub returns-in-Two : goal.returns-in-Two
+unfolding pick_added
+returns-in-Two c =
+    c.add_part-in-Two-2.ensures ∙ rw (c.add_part-in-Two.ensures, c.in-Two.is)

@@ -1,0 +1,16 @@
+use mathlib.Core.Path.{◌≡◌, refl, sym, ◌∙◌}
+use Prim.Native.Nat.{◌+◌, ◌-◌, ◌≤◌}
+use native.Mathlib.Nat.{add-zero}
+use native.Mathlib.Omega.{arith}
+use borrow.Author.Rules.{rules}
+use borrow.Author.Tests.{not-true, not-false}
+use lib.Seq.{slice}
+use Rattle.field.specs.Responses.{count_below}
+use Rattle.field.proofs.response.Slices.{slice-past, below_more, below-found}
+use Rattle.field.proofs.response.first_from.Given as goal
+
+abbrev pub invariant-loop-i : goal.invariant-loop-i
+invariant-loop-i l = (l.i ≤ l.b) × (l.i + count_below l.u (slice l.i l.b l.v) ≡ l.a + count_below l.u (slice l.a l.b l.v))
+
+abbrev pub decreases-loop-i : goal.decreases-loop-i
+decreases-loop-i l = l.b - l.i

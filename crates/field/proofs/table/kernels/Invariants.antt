@@ -1,0 +1,16 @@
+use mathlib.Core.Path.{◌≡◌, refl, sym, ap, ◌∙◌}
+use Prim.Native.Nat.{ℕ, ◌-◌, ◌≤◌, zero-le}
+use native.Mathlib.Omega.{arith}
+use borrow.Author.Rules.{rules}
+use lib.ListN.{length, length-set}
+use Rattle.extent.specs.Kernel.{kernel_of}
+use Rattle.field.specs.Knots.{steps}
+use Rattle.field.specs.Patched.{patched, within}
+use Rattle.field.proofs.Patching.{within_none, within_more}
+use Rattle.field.proofs.table.kernels.Given as goal
+
+abbrev pub invariant-loop-s : goal.invariant-loop-s
+invariant-loop-s l = (l.s ≤ l.samples) × (l.out ≡ patched (within 0 l.s) (λ (s : ℕ). kernel_of (steps (l.samples - 1) s) l.center l.radius l.z) l.initial.out) × (length l.out ≡ length l.initial.out)
+
+abbrev pub decreases-loop-s : goal.decreases-loop-s
+decreases-loop-s l = l.samples - l.s

@@ -1,0 +1,14 @@
+use mathlib.Core.Path.{◌≡◌, refl, sym, ap, ◌∙◌}
+use Prim.Native.Nat.{ℕ, ◌-◌, ◌≤◌}
+use native.Mathlib.Omega.{arith}
+use borrow.Author.Rules.{rules}
+use lib.ListN.{length}
+use Rattle.field.specs.Patched.{patched}
+use Rattle.field.proofs.table.KnotRows.{table_xy, written_xy, written_xy-none, written_xy-more, written_xy-done}
+use Rattle.field.proofs.table.knots_xy.Given as goal
+
+abbrev pub invariant-loop-knot : goal.invariant-loop-knot
+invariant-loop-knot l = (l.knot ≤ 700) × (l.store ≡ patched (written_xy l.base l.n l.knot) (table_xy l.x l.y l.base l.n) l.initial.store) × (length l.store ≡ length l.initial.store)
+
+abbrev pub decreases-loop-knot : goal.decreases-loop-knot
+decreases-loop-knot l = 700 - l.knot

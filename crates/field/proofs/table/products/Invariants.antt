@@ -1,0 +1,23 @@
+use mathlib.Core.Path.{◌≡◌, refl}
+use mathlib.Core.List.{List}
+use mathlib.Core.Logic.{⊎_elim}
+use Prim.Native.Nat.{ℕ, ◌+◌, ◌-◌, ◌*◌, ◌≤◌}
+use native.Mathlib.Omega.{arith}
+use borrow.Author.Rules.{rules}
+use lib.Ieee.{Float, nan, of_bits}
+use lib.ListN.{length, get_or, take, length-set}
+use Rattle.field.specs.Steps.Sums.{products_of}
+use Rattle.field.proofs.SampledSums.{products-none, products-more, products-same}
+use Rattle.field.proofs.table.products.Given as goal
+
+abbrev pub kernel : List Float → ℕ → Float
+kernel kernels s = get_or kernels s nan
+
+abbrev pub response : List Float → ℕ → ℕ → Float
+response responses k s = get_or responses (s * 24 + k) nan
+
+abbrev pub invariant-loop-s : goal.invariant-loop-s
+invariant-loop-s l = (l.s ≤ l.samples) × (l.m ≤ l.s) × (take l.m l.y ≡ products_of (kernel l.kernels) (response l.responses l.k) l.s) × (length l.y ≡ length l.initial.y)
+
+abbrev pub decreases-loop-s : goal.decreases-loop-s
+decreases-loop-s l = l.samples - l.s
