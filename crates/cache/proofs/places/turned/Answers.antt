@@ -7,8 +7,7 @@ use borrow.Author.Rules.{rules}
 use borrow.Author.Tests.{lt-ltb, le-ltb}
 use Rattle.cache.specs.declared.Ring.{Ring}
 use Rattle.cache.specs.Places.{ring_after}
-use Rattle.cache.proofs.places.turned.Statement.{statement}
-use Rattle.cache.proofs.places.turned.Tie as tie
+use Rattle.cache.proofs.places.turned.Goals as goal
 
 abbrev by : Ring → Bool → Ring
 by r b = record { count = cond b (r.count + 1) r.count; oldest = cond b r.oldest ((r.oldest + 1) % 8) }
@@ -21,5 +20,8 @@ turns r h =
     let e : (r.oldest % 8 + 1) % 8 ≡ (r.oldest + 1) % 8 = omega arith in
     ap (λ (o : ℕ). record { count = r.count; oldest = o }) e ∙ sym (ap (by r) (le-ltb r.count 8 h))
 
-pub turned-spec : {M : Type 1} → statement M
-turned-spec = tie.close (tie.spec (λ c. search rules) (λ c. search rules) (λ c. grows _ c.before.if1.true) (λ c. turns _ c.before.if1.false))
+pub returns-then-r-lt8 : goal.returns-then-r-lt8
+returns-then-r-lt8 c = grows _ c.if-r-lt8.true
+
+pub returns-else-r-lt8 : goal.returns-else-r-lt8
+returns-else-r-lt8 c = turns _ c.if-r-lt8.false

@@ -8,8 +8,7 @@ use borrow.Author.Rules.{rules}
 use borrow.Author.Tests.{lt-ltb, le-ltb}
 use lib.Dec.{ltb}
 use Rattle.cache.specs.Places.{with_key}
-use Rattle.cache.proofs.places.put.Statement.{statement}
-use Rattle.cache.proofs.places.put.Tie as tie
+use Rattle.cache.proofs.places.put.Goals as goal
 
 module _ (words : List ℕ) (p : ℕ) (key : List ℕ) where
   abbrev by : Bool → List ℕ
@@ -21,11 +20,8 @@ module _ (words : List ℕ) (p : ℕ) (key : List ℕ) where
   placed : p ≤ 7 → (words' : List ℕ) → words' ≡ with_key words p key → words' ≡ by (ltb p 8)
   placed h words' e = e ∙ sym (ap by (lt-ltb p 8 (omega arith)))
 
-returns : tie.Need-returns
-returns c = untouched _ _ _ c.if1.true
+pub returns-then-p-gt7 : goal.returns-then-p-gt7
+returns-then-p-gt7 c = untouched _ _ _ c.if-p-gt7.true
 
-returns-2 : tie.Need-returns-2
-returns-2 c = placed _ _ _ c.before.before.before.if1.false _ c.put-at.ensures
-
-pub put_spec : {M : Type 1} → statement M
-put_spec = tie.close (tie.spec returns (λ c κs. search rules) returns-2)
+pub returns : goal.returns
+returns c = placed _ _ _ c.if-p-gt7.false _ c.put_at.ensures
