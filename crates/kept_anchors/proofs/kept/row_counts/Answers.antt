@@ -39,5 +39,5 @@ returns c =
     let ns = slice 52 (52 + s.n) s.key.now in
     record {
       counts_after = written-done (counts_of ns s.kept.now) v.counts v.i i.5 s.n (omega (arith, i.4.le)) (counts-long ns s.kept.now ∙ i.4.counts);
-      all = reached-done ns s.n v.at v.i i.4 (omega arith);
+      count = reached-done ns s.n v.at v.i i.4 (omega arith);
     }
