@@ -1,11 +1,11 @@
 // The eight places of a selector: questions 11 to 14, and keys looked for and put.
 #![tactic(auto)]
 
+mod later_questions;
 mod places;
-mod questions;
 
+pub use later_questions::later_no;
 pub use places::{find, next_place, put, turned};
-pub use questions::later_no;
 
 // What an accepted call says of its field.
 #[derive(Clone, Copy)]

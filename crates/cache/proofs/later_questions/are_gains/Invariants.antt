@@ -11,7 +11,7 @@ use Rattle.lists.proofs.Loops.{slice-more, slice-done}
 use Rattle.layout.proofs.QuestionsLoops.{all-not, all-next}
 use Rattle.cache.specs.Questions.{is_gain}
 use Rattle.cache.proofs.Later.{gain-is}
-use Rattle.cache.proofs.questions.are_gains.Given as goal
+use Rattle.cache.proofs.later_questions.are_gains.Given as goal
 
 abbrev pub invariant-loop-k : goal.invariant-loop-k
 invariant-loop-k l = (l.k ≤ l.n) × (l.n ≡ length l.points) × (all_of is_gain (slice l.k l.n l.points) ≡ all_of is_gain l.points)

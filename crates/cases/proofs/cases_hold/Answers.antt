@@ -2,12 +2,8 @@
 use mathlib.Core.Path.{refl}
 use lib.Ieee.{add, sub, mul, div, sum, lt, le, eq, of_int, round, to_signed, to_bits, of_bits}
 use Rattle.cases.specs.Cases.{cases}
-use Rattle.cases.proofs.cases_hold.Statement.{statement}
-use Rattle.cases.proofs.cases_hold.Tie as tie
+use Rattle.cases.proofs.cases_hold.Goals as goal
 
-returns : tie.Need-returns
+pub returns : goal.returns
 unfolding cases add sub mul div sum lt le eq of_int round to_signed to_bits of_bits
 returns c = refl
-
-pub cases-hold-spec : {M : Type 1} → statement M
-cases-hold-spec = tie.close (tie.spec returns)

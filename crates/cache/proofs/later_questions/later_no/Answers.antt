@@ -9,7 +9,7 @@ use lib.ListN.{length}
 use Rattle.lists.specs.Lists.{all_of}
 use Rattle.cache.specs.Questions.{is_gain, question11, question12}
 use Rattle.cache.proofs.Later.{sizes-are, ring-is, later-11, later-12, later-13, later-14, later-none}
-use Rattle.cache.proofs.questions.later_no.Goals as goal
+use Rattle.cache.proofs.later_questions.later_no.Goals as goal
 
 pub returns-then-not-is_finite_centre : goal.returns-then-not-is_finite_centre
 returns-then-not-is_finite_centre c = later-11 _ _ _ _ _ _ (sym c.is_finite_centre.ensures ∙ c.if-not-is_finite_centre.true)

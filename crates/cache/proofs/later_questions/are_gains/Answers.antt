@@ -12,7 +12,7 @@ use Rattle.lists.proofs.Loops.{slice-more, slice-done}
 use Rattle.layout.proofs.QuestionsLoops.{all-not, all-next}
 use Rattle.cache.specs.Questions.{is_gain}
 use Rattle.cache.proofs.Later.{gain-is}
-use Rattle.cache.proofs.questions.are_gains.Goals as goal
+use Rattle.cache.proofs.later_questions.are_gains.Goals as goal
 
 pub returns-then-not-is_between : goal.returns-then-not-is_between
 unfolding of_bits round
