@@ -1,8 +1,0 @@
--- `replay::digit` meets its contract. Assumes nothing.
-use borrow.Author.Rules.{rules}
-use borrow.Author.Tests.{lt-ltb, le-ltb}
-use Rattle.replay.proofs.digit.Statement.{statement}
-use Rattle.replay.proofs.digit.Tie as tie
-
-pub digit-spec : {M : Type 1} → statement M
-digit-spec = tie.close (tie.spec (λ c. search rules) (λ c. rw (lt-ltb _ _ c.if1.true)) (λ c. rw (le-ltb _ _ c.if1.false)))
