@@ -27,7 +27,7 @@ const L: f64 = 6.123233995736766e-17;
 // c0 - y (c1 - y (c2 ...)), each c being 1 / factorial, rounded once.
 fn alternating_series(factorials: &[u64], y: f64) -> f64
     requires factorials_nonzero { 0 < length factorials.now }
-    requires t { T (exact factorials.now) }
+    requires factorials_exact { T (exact factorials.now) }
     ensures { result ≡ series y factorials.now }
 {
     let mut i = factorials.len() - 1;

@@ -40,8 +40,8 @@ fn power_near(n: f64) -> f64
 
 // For a value from -1022 up and below 1023, of which the product is always finite.
 pub(crate) fn exp2_near(value: f64) -> f64
-    requires t { T (le (fin true 511 (pos 1)) value) }
-    requires t_2 { T (lt value (fin false 1023 (pos 0))) }
+    requires low_bound { T (le (fin true 511 (pos 1)) value) }
+    requires high_bound { T (lt value (fin false 1023 (pos 0))) }
     ensures { result ≡ exp2_of value }
 {
     let n = floor_near(value);

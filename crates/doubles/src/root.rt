@@ -63,9 +63,9 @@ fn digits(m: u64) -> u64
 // last digit, and q its 53 digits and one more. The root is never halfway between two doubles, so
 // the last digit of q says which way to go.
 fn rounded(m: u64, e: u64) -> f64
-    requires bound { 2 ^ 52 ≤ m }
+    requires m_low { 2 ^ 52 ≤ m }
     requires m_bound { m < 2 ^ 53 }
-    requires le_e { 1022 ≤ e }
+    requires e_low { 1022 ≤ e }
     requires e_bound { e < 3120 }
     ensures { NearRoot (m * 2 ^ e) result }
 {
@@ -141,9 +141,9 @@ fn is_root(m: u64, g: u64) -> bool
 
 // Whether s is the root that `rounded` gives, tested exactly.
 fn is_rounded(m: u64, e: u64, s: f64) -> bool
-    requires bound { 2 ^ 52 ≤ m }
+    requires m_low { 2 ^ 52 ≤ m }
     requires m_bound { m < 2 ^ 53 }
-    requires le_e { 1022 ≤ e }
+    requires e_low { 1022 ≤ e }
     requires e_bound { e < 3120 }
     ensures { T result → NearRoot (m * 2 ^ e) s }
 {
@@ -161,8 +161,8 @@ fn is_rounded(m: u64, e: u64, s: f64) -> bool
 
 // The root of an x above zero and finite: of a normal x the guess where that is right, else by digits.
 fn sqrt_positive(x: f64) -> f64
-    requires t { T (lt zero64 x) }
-    requires t_2 { T (finite x) }
+    requires positive { T (lt zero64 x) }
+    requires x_finite { T (finite x) }
     ensures { NearRoot (square_units x) result }
 {
     let b: u64 = f64::to_bits(x);

@@ -43,8 +43,8 @@ fn first_from(v: &[f64], a: usize, b: usize, u: f64) -> usize
 
 // Of the coordinates from a up to b: the end one at or beyond an end, else the two neighbours of u.
 fn neighbours(v: &[f64], a: usize, b: usize, u: f64) -> Pick
-    requires a_lt_b { (a < b) × (b ≤ length v.now) }
-    requires t { T (finite u) × T (finite (get_or v.now a nan)) × T (finite (get_or v.now (b - 1) nan)) }
+    requires part_in_bounds { (a < b) × (b ≤ length v.now) }
+    requires ends_finite { T (finite u) × T (finite (get_or v.now a nan)) × T (finite (get_or v.now (b - 1) nan)) }
     ensures { result ≡ shifted a (pick_of (slice a b v.now) u) }
 {
     if u <= v[a] {
@@ -60,7 +60,7 @@ fn neighbours(v: &[f64], a: usize, b: usize, u: f64) -> Pick
 // Of the layers: with two by the coordinate alone, with three or more by z like rows.
 fn selected_layers(zs: &[f64], depth: usize, u: f64) -> Pick
     requires le_depth { (1 ≤ depth) × (depth ≤ length zs.now) }
-    requires t { T (finite u) × T (finite (get_or zs.now 0 nan)) × T (finite (get_or zs.now (depth - 1) nan)) }
+    requires ends_finite { T (finite u) × T (finite (get_or zs.now 0 nan)) × T (finite (get_or zs.now (depth - 1) nan)) }
     ensures { result ≡ layer_pick (take depth zs.now) u }
 {
     if depth != 2 {

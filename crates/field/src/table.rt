@@ -120,7 +120,7 @@ fn knot_xy(
     requires n_in_bounds { (base + 1400 * n ≤ length store.old) × (n ≤ 24) × (knot < 700) }
     requires in_bounds { (480 ≤ length x.now) × (480 ≤ length y.now) }
     requires firsts { Firsts x.now 20 n firstx.now }
-    requires firsts_2 { Firsts y.now 20 n firsty.now }
+    requires firsts_of_y { Firsts y.now 20 n firsty.now }
     ensures { store.new ≡ patched (either (row base n knot) (row base n (700 + knot)))
         (λ (i : ℕ). number_xy x.now y.now ((i - base) / n) ((i - base) % n)) store.old }
 {
@@ -154,7 +154,7 @@ fn knots_xy(
     requires n_in_bounds { (base + 1400 * n ≤ length store.old) × (1 ≤ n) × (n ≤ 24) }
     requires in_bounds { (480 ≤ length x.now) × (480 ≤ length y.now) }
     requires firsts { Firsts x.now 20 n firstx.now }
-    requires firsts_2 { Firsts y.now 20 n firsty.now }
+    requires firsts_of_y { Firsts y.now 20 n firsty.now }
     ensures { store.new ≡ patched (within base (base + 1400 * n))
         (λ (i : ℕ). number_xy x.now y.now ((i - base) / n) ((i - base) % n)) store.old }
 {

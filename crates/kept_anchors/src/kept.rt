@@ -47,7 +47,7 @@ fn row_counts(key: &[u64], n: usize, kept: &[bool], counts: &mut [usize]) -> usi
     requires kept_len { length kept.now ≡ 24 }
     requires counts_len { length counts.old ≡ 24 }
     ensures counts_after { take n counts.new ≡ counts_of (slice 52 (52 + n) key.now) kept.now }
-    ensures all { result ≡ min (total (slice 52 (52 + n) key.now)) 24 }
+    ensures count { result ≡ min (total (slice 52 (52 + n) key.now)) 24 }
 {
     let mut at = 0usize;
     let mut i = 0usize;
@@ -80,8 +80,8 @@ fn count_positive(counts: &[usize], at: usize, end: usize) -> usize
 fn clear_two(key: &mut [u64], a: usize, b: usize, from: usize, to: usize)
     requires key_len { length key.old ≡ 156 }
     requires from_le_to { from ≤ to }
-    requires to_bound { a + to ≤ b }
-    requires to_bound_2 { b + to ≤ 156 }
+    requires counts_in_bounds { a + to ≤ b }
+    requires places_in_bounds { b + to ≤ 156 }
     ensures { Cleared a b from to key.old key.new }
 {
     let mut i = from;

@@ -9,7 +9,7 @@ use Rattle.approximations.proofs.circular.alternating_series.Goals as goal
 pub int_to_float-r : goal.int_to_float-r
 int_to_float-r c =
     let ks = c.args.factorials.now in
-    casts _ (entry-exact ks c.requires.t (length ks - 1))
+    casts _ (entry-exact ks c.requires.factorials_exact (length ks - 1))
 
 pub loop-i-init : goal.loop-i-init
 unfolding of_bits
@@ -19,7 +19,7 @@ loop-i-init c =
 
 pub int_to_float-r-in-loop-i : goal.int_to_float-r-in-loop-i
 int_to_float-r-in-loop-i c =
-    casts _ (entry-exact c.args.factorials.now c.requires.t (c.loop-i.i - 1))
+    casts _ (entry-exact c.args.factorials.now c.requires.factorials_exact (c.loop-i.i - 1))
 
 pub loop-i-preserved : goal.loop-i-preserved
 unfolding of_bits

@@ -8,6 +8,6 @@ use Rattle.approximations.proofs.exp2.approx_exp2.Goals as goal
 pub exp2_near-requires : goal.exp2_near-requires
 unfolding neg of_bits
 exp2_near-requires c = record {
-    t = and_l (le (fin true 511 (pos 1)) c.args.value) (lt c.args.value (fin false 1023 (pos 0))) (yes c.if-value.true);
-    t_2 = and_r (le (fin true 511 (pos 1)) c.args.value) (lt c.args.value (fin false 1023 (pos 0))) (yes c.if-value.true);
+    low_bound = and_l (le (fin true 511 (pos 1)) c.args.value) (lt c.args.value (fin false 1023 (pos 0))) (yes c.if-value.true);
+    high_bound = and_r (le (fin true 511 (pos 1)) c.args.value) (lt c.args.value (fin false 1023 (pos 0))) (yes c.if-value.true);
     }

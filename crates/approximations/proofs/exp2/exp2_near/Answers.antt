@@ -8,10 +8,10 @@ use Rattle.approximations.proofs.exp2.exp2_near.Goals as goal
 
 pub power_near-requires : goal.power_near-requires
 power_near-requires c =
-    let r = in-range c.args.value (subst T (sym c.well_formed.0.1) tt) c.requires.t c.requires.t_2 in
-    subst NormalExponent (sym (c.floor_near-n.ensures.near r.0 r.1)) (exponent c.args.value (subst T (sym c.well_formed.0.1) tt) c.requires.t c.requires.t_2)
+    let r = in-range c.args.value (subst T (sym c.well_formed.0.1) tt) c.requires.low_bound c.requires.high_bound in
+    subst NormalExponent (sym (c.floor_near-n.ensures.near r.0 r.1)) (exponent c.args.value (subst T (sym c.well_formed.0.1) tt) c.requires.low_bound c.requires.high_bound)
 
 pub returns : goal.returns
 returns c =
-    let r = in-range c.args.value (subst T (sym c.well_formed.0.1) tt) c.requires.t c.requires.t_2 in
-    rw (c.power_near.ensures, c.polynomial.ensures, c.floor_near-n.ensures.near r.0 r.1) (near-is c.args.value (subst T (sym c.well_formed.0.1) tt) c.requires.t c.requires.t_2)
+    let r = in-range c.args.value (subst T (sym c.well_formed.0.1) tt) c.requires.low_bound c.requires.high_bound in
+    rw (c.power_near.ensures, c.polynomial.ensures, c.floor_near-n.ensures.near r.0 r.1) (near-is c.args.value (subst T (sym c.well_formed.0.1) tt) c.requires.low_bound c.requires.high_bound)

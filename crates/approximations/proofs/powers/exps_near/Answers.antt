@@ -20,8 +20,8 @@ exp2_near-requires c =
     let p : T (in_exponents (get_or a.y.now c.loop-i.i nan)) = each_at in_exponents a.n c.loop-i.i a.y.now nan c.requires.1 (omega arith) (omega arith) in
     let v = get_or a.y.now c.loop-i.i nan in
     record {
-      t = rw (c.loop-i.invariant.1, first-at exp2_of c.loop-i.i a.y.now nan (omega arith)) (and_l (le low v) (lt v high) p);
-      t_2 = rw (c.loop-i.invariant.1, first-at exp2_of c.loop-i.i a.y.now nan (omega arith)) (and_r (le low v) (lt v high) p);
+      low_bound = rw (c.loop-i.invariant.1, first-at exp2_of c.loop-i.i a.y.now nan (omega arith)) (and_l (le low v) (lt v high) p);
+      high_bound = rw (c.loop-i.invariant.1, first-at exp2_of c.loop-i.i a.y.now nan (omega arith)) (and_r (le low v) (lt v high) p);
     }
 
 pub loop-i-preserved : goal.loop-i-preserved

@@ -15,8 +15,8 @@ vain x n r p t = absurd (T_not (lt zero_f x) n p)
 pub sqrt_positive-requires : goal.sqrt_positive-requires
 unfolding of_bits
 sqrt_positive-requires c = record {
-    t = (yes c.if-x.true);
-    t_2 = (under-inf c.args.x (yes c.if-x.true) (subst (λ (z : Float). T (lt c.args.x z)) inf-is (yes c.if-x-2.true)));
+    positive = (yes c.if-x.true);
+    x_finite = (under-inf c.args.x (yes c.if-x.true) (subst (λ (z : Float). T (lt c.args.x z)) inf-is (yes c.if-x-2.true)));
     }
 
 pub returns-then-x-2 : goal.returns-then-x-2

@@ -18,13 +18,13 @@ held : (c : goal.Start) → T (fits binary64 (x c))
 held c = subst T (sym c.well_formed.0.1) tt
 
 positive : (c : goal.Start) → T (plain (x c))
-positive c = is_plain (x c) c.requires.t c.requires.t_2
+positive c = is_plain (x c) c.requires.positive c.requires.x_finite
 
 form : (c : goal.Start) → Shape (b c) (mag binary64 (x c))
 form c = shape (x c) (held c) (positive c)
 
 pub float_to_bits-b : goal.float_to_bits-b
-float_to_bits-b c = over-no-nan (x c) c.requires.t
+float_to_bits-b c = over-no-nan (x c) c.requires.positive
 
 -- ---- a normal x
 high : (c : goal.Then-e-gt0) → Asked (digits53 (b c.before)) (b c.before / 2 ^ 52 + 1073) × (mag binary64 (x c.before) * 2 ^ 1074 ≡ digits53 (b c.before) * 2 ^ (b c.before / 2 ^ 52 + 1073))
@@ -39,24 +39,24 @@ guess-s-requires c = (form c.before).0
 pub is_rounded-requires : goal.is_rounded-requires
 is_rounded-requires c =
     let h = (high c.before).0 in record {
-    bound = h.0;
+    m_low = h.0;
     m_bound = h.1.0;
-    le_e = h.1.1.0;
+    e_low = h.1.1.0;
     e_bound = h.1.1.1;
     }
 
 pub rounded-requires : goal.rounded-requires
 rounded-requires c =
     let h = (high c.before.before.before).0 in record {
-    bound = h.0;
+    m_low = h.0;
     m_bound = h.1.0;
-    le_e = h.1.1.0;
+    e_low = h.1.1.0;
     e_bound = h.1.1.1;
     }
 
 -- ---- a subnormal x
 low : (c : goal.Else-e-gt0) → (mag binary64 (x c.before) ≡ b c.before) × Moved (b c.before) (count_leading_zeros 64 (b c.before))
-low c = subnormal (b c.before) (mag binary64 (x c.before)) (form c.before) (mag-pos binary64 (x c.before) (held c.before) (positive c.before) c.requires.t) (none (b c.before / 2 ^ 52) c.if-e-gt0.false)
+low c = subnormal (b c.before) (mag binary64 (x c.before)) (form c.before) (mag-pos binary64 (x c.before) (held c.before) (positive c.before) c.requires.positive) (none (b c.before / 2 ^ 52) c.if-e-gt0.false)
   where
     none : (f : ℕ) → f ≤ 0 → f ≡ 0
     none f h = omega arith
@@ -76,9 +76,9 @@ overflow_sub-n-else-e-gt0 c = (low c).1.2
 pub rounded-requires-else-e-gt0 : goal.rounded-requires-else-e-gt0
 rounded-requires-else-e-gt0 c =
     let h = (low c).1.3 in record {
-    bound = h.0;
+    m_low = h.0;
     m_bound = h.1.0;
-    le_e = h.1.1.0;
+    e_low = h.1.1.0;
     e_bound = h.1.1.1;
     }
 

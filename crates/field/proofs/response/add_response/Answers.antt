@@ -23,8 +23,8 @@ neighbours-requires c =
     let g = c.loop-g.g in
     let h = c.loop-g-test.true in
     record {
-    a_lt_b = (k.some g h, group-within a.at.now a.parts.now a.v.now a.groups.now a.count a.u c.requires.base_in_bounds.1 k g h);
-    t = (
+    part_in_bounds = (k.some g h, group-within a.at.now a.parts.now a.v.now a.groups.now a.count a.u c.requires.base_in_bounds.1 k g h);
+    ends_finite = (
         c.requires.base_in_bounds.1,
         group-first a.at.now a.parts.now a.v.now a.groups.now a.count a.u c.requires.base_in_bounds.1 k g h,
         group-last a.at.now a.parts.now a.v.now a.groups.now a.count a.u c.requires.base_in_bounds.1 k g h,

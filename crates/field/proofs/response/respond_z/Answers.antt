@@ -20,7 +20,7 @@ selected_layers-requires c =
     let z = c.requires.by_index.0 in
     record {
     le_depth = (c.requires.in_bounds.1, c.requires.in_bounds.2);
-    t = (rw c.step.ensures (sample-finite Z c.loop-s.s c.loop-s-test.true), z 0 c.requires.in_bounds.1, z (c.args.depth - 1) (omega (arith, c.requires.in_bounds)));
+    ends_finite = (rw c.step.ensures (sample-finite Z c.loop-s.s c.loop-s-test.true), z 0 c.requires.in_bounds.1, z (c.args.depth - 1) (omega (arith, c.requires.in_bounds)));
     }
 
 pub add_pick-requires : goal.add_pick-requires

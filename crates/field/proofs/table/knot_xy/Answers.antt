@@ -31,4 +31,4 @@ pub overflow_add-base-2 : goal.overflow_add-base-2
 overflow_add-base-2 c = omega (arith, row_room c.args.n (700 + c.args.knot) 1400 (omega arith))
 
 pub sampled_response-requires-2 : goal.sampled_response-requires-2
-sampled_response-requires-2 c =  record { n_in_bounds = omega (arith, row_room c.args.n (700 + c.args.knot) 1400 (omega arith)); firsts = c.requires.firsts_2 }
+sampled_response-requires-2 c =  record { n_in_bounds = omega (arith, row_room c.args.n (700 + c.args.knot) 1400 (omega arith)); firsts = c.requires.firsts_of_y }

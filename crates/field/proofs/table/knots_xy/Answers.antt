@@ -27,4 +27,4 @@ returns c =
     ∙ written_xy-done a.base a.n (table_xy a.x.now a.y.now a.base a.n) a.store.now
 
 pub knot_xy-requires : goal.knot_xy-requires
-knot_xy-requires c = record { n_in_bounds = omega arith; in_bounds = c.requires.in_bounds; firsts = c.requires.firsts; firsts_2 = c.requires.firsts_2 }
+knot_xy-requires c = record { n_in_bounds = omega arith; in_bounds = c.requires.in_bounds; firsts = c.requires.firsts; firsts_of_y = c.requires.firsts_of_y }

@@ -1,0 +1,11 @@
+-- Keys with another epoch differ.
+use Prim.Native.Nat.{◌*◌}
+use borrow.Author.Rules.{rules}
+use native.Mathlib.Omega.{arith}
+use Rattle.cache.proofs.KeyCompare.{word-differs}
+use Rattle.cache.proofs.places.has_key.Goals as goal
+
+pub returns-then-keys-from : goal.returns-then-keys-from
+returns-then-keys-from c =
+    let a = c.args in
+    word-differs a.keys.now (156 * a.p) a.key.now 154 (omega arith) c.if-keys-from.true

@@ -1,0 +1,11 @@
+use Prim.Native.Nat.{◌-◌}
+use borrow.Author.Rules.{rules}
+use native.Mathlib.Omega.{arith}
+use Rattle.cache.proofs.KeyCompare.{Compared, compared-none, compared-more, compared-done}
+use Rattle.cache.proofs.places.is_key.Given as goal
+
+abbrev pub invariant-loop-i : goal.invariant-loop-i
+invariant-loop-i l = Compared l.keys l.from l.key l.differ l.i
+
+abbrev pub decreases-loop-i : goal.decreases-loop-i
+decreases-loop-i l = 156 - l.i

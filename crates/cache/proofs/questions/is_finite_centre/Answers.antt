@@ -1,0 +1,6 @@
+-- The three answers together.
+use borrow.Author.Rules.{rules}
+use Rattle.cache.proofs.questions.is_finite_centre.Goals as goal
+
+pub returns : goal.returns
+returns c = rw (c.is_finite.ensures, c.is_finite-2.ensures, c.is_finite-3.ensures)

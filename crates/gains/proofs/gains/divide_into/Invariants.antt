@@ -1,0 +1,13 @@
+use Prim.Native.Nat.{◌-◌}
+use mathlib.Core.List.{map}
+use lib.Ieee.{Float}
+use lib.ListN.{take}
+use Rattle.doubles.specs.Arithmetic.{◌⊘◌}
+use Rattle.gains.proofs.gains.Front.{Replaced}
+use Rattle.gains.proofs.gains.divide_into.Given as goal
+
+abbrev pub invariant-loop-k : goal.invariant-loop-k
+invariant-loop-k l = Replaced l.n (map (λ (x : Float). x ⊘ l.by) (take l.n l.v)) l.initial.out l.out l.k
+
+abbrev pub decreases-loop-k : goal.decreases-loop-k
+decreases-loop-k l = l.n - l.k

@@ -1,0 +1,116 @@
+-- By the state and by the flags, which answer question 9. Both questions are asked of the key as it was, and what is kept is what the
+-- state selects.
+use Prim.Native.Nat.{ℕ, ◌≤◌}
+use mathlib.Core.Path.{◌≡◌, sym, ap, ◌∙◌}
+use mathlib.Core.Bool.{Bool, true, false}
+use mathlib.Core.List.{List}
+use native.Mathlib.Omega.{arith}
+use borrow.Author.Rules.{rules}
+use lib.ListN.{length}
+use Rattle.lists.specs.Lists.{any_of}
+use Rattle.layout.specs.Steps.Accepted.{Accepted}
+use Rattle.layout.proofs.QuestionsAccepted.{accepted}
+use Rattle.region.specs.Zones.{is_default}
+use Rattle.keys.specs.InKey.{layout_in, room_in}
+use Rattle.keys.proofs.InKey.{sized, used-is, depth_is as depth-at}
+use Rattle.layout.proofs.RoomLists.{depth_is}
+use Rattle.kept_anchors.specs.Steps.Kept.{kept_key}
+use Rattle.selection.specs.Selection.{question9}
+use Rattle.selection.specs.Steps.{kept_flags, is_set, with_layers}
+use Rattle.selection.proofs.KeyRoom.{Words}
+use Rattle.selection.proofs.KeptKey.{kept-key}
+use Rattle.selection.proofs.Answers.{nine-by-flags, default-ten, default-nine, other-room, refused-9, refused-10, answer-0, default-key, other_key}
+use Rattle.layout.specs.Questions.{first_no, layout_questions}
+use Rattle.region.specs.declared.RegionSemanticState.{RegionSemanticState}
+use Rattle.selection.proofs.selection.select.Goals as goal
+
+-- ---- the key that is lent
+module _ (key : List ℕ) (long : length key ≡ 156) (none : first_no (layout_questions (layout_in key)) ≡ 0) where
+  room-accepted : Accepted (layout_in key)
+  room-accepted = let z = sized key long in accepted (layout_in key) z.channels z.layers z.rows z.anchors none
+
+  some-layer : 1 ≤ length (room_in key).layers
+  some-layer = omega (arith, depth_is (layout_in key) (sized key long) room-accepted, room-accepted.some_layers)
+
+-- question 9 in another state, as one flag or none is set
+nine : (s : RegionSemanticState) (key : List ℕ) (flags : List Bool) (any b : Bool) → is_default s ≡ false → flags ≡ kept_flags s (room_in key) → any ≡ any_of is_set flags → any ≡ b → question9 s (room_in key) ≡ b
+nine s key flags any b other f a e = sym (nine-by-flags s (room_in key) other) ∙ ap (any_of is_set) (sym f) ∙ sym a ∙ e
+
+-- ---- the default state
+pub returns-then-is_default : goal.returns-then-is_default
+returns-then-is_default c =
+    let s = c.args.state in
+    let key = c.args.key.now in
+    let long : length key ≡ 156 = search rules in
+    let is = sym c.is_default.ensures ∙ c.if-is_default.true in
+    let nine = default-nine s (room_in key) is (some-layer key long c.requires) in
+    let ten = default-ten s (room_in key) is in
+    record {
+      value = answer-0 s key c.requires nine ten;
+      key = default-key s key c.requires nine ten is;
+    }
+
+-- ---- another state
+pub kept_flags-requires : goal.kept_flags-requires
+kept_flags-requires c =
+    let key = c.args.key.now in
+    let long : length key ≡ 156 = search rules in
+    record {
+      key_len = long;
+      accepted = room-accepted key long c.requires;
+      used_value = sym (used-is key long);
+      depth_value = sym (depth-at key long);
+      kept_value = search rules;
+    }
+
+pub returns-then-not-any_set : goal.returns-then-not-any_set
+returns-then-not-any_set c =
+    let s = c.args.state in
+    let key = c.args.key.now in
+    let other = sym c.is_default.ensures ∙ c.if-is_default.false in
+    let h = refused-9 s key c.requires (nine s key _ _ false other c.kept_flags.ensures c.any_set.ensures c.if-not-any_set.true) in
+    record {
+      value = h.0;
+      key = h.1;
+    }
+
+pub bed_classed-requires : goal.bed_classed-requires
+bed_classed-requires c =
+    let key = c.args.key.now in
+    let long : length key ≡ 156 = search rules in
+    record {
+      key_len = long;
+      accepted = room-accepted key long c.requires;
+      used_value = sym (used-is key long);
+      depth_value = sym (depth-at key long);
+    }
+
+pub returns-then-not-bed_classed : goal.returns-then-not-bed_classed
+returns-then-not-bed_classed c =
+    let s = c.args.state in
+    let key = c.args.key.now in
+    let other = sym c.is_default.ensures ∙ c.if-is_default.false in
+    let yes = nine s key _ _ true other c.kept_flags.ensures c.any_set.ensures c.if-not-any_set.false in
+    let h = refused-10 s key c.requires yes (sym c.bed_classed.ensures ∙ c.if-not-bed_classed.true) in
+    record {
+      value = h.0;
+      key = h.1;
+    }
+
+pub returns : goal.returns
+returns c =
+    let s = c.args.state in
+    let key = c.args.key.now in
+    let long : length key ≡ 156 = search rules in
+    let words : Words key = λ i. omega (arith, c.fits-key i) in
+    let other = sym c.is_default.ensures ∙ c.if-is_default.false in
+    let yes = nine s key _ _ true other c.kept_flags.ensures c.any_set.ensures c.if-not-any_set.false in
+    let ten = sym c.bed_classed.ensures ∙ c.if-not-bed_classed.false in
+    record {
+      value = answer-0 s key c.requires yes ten;
+      key = c.pack_kept.ensures
+          ∙ ap (λ (f : List Bool). kept_key f key) c.kept_flags.ensures
+          ∙ kept-key key long words (room-accepted key long c.requires) _
+          ∙ ap (with_layers key) (sym (other-room s (room_in key) other))
+          ∙ other_key s key c.requires yes ten other;
+    }
