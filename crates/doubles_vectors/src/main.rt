@@ -4,7 +4,8 @@
 // e approx_exp2, l approx_log2, i is_finite, b is_between 0 and 1, k clamp to 0 and 1.
 #![tactic(auto)]
 
-use libc::{STDIN_FILENO, STDOUT_FILENO};
+use std::io;
+use std::io::{BufReader, BufWriter, Read, Write};
 
 // A letter, a space, 16 digits and a line feed.
 const LINE: usize = 19;
@@ -56,27 +57,33 @@ fn answer(letter: u8, bits: u64) -> u64 {
 }
 
 // One line; false at the end of the input.
-fn step() -> bool {
+fn step<R: Read, W: Write>(input: &mut R, out: &mut W) -> io::Result<bool> {
     let mut line = [0u8; 19];
-    if io::read_full(STDIN_FILENO, &mut line) < LINE {
-        return false;
+    if record_io::read_full(input, &mut line)? < LINE {
+        return Ok(false);
     }
     let letter = line[0];
-    put(letter, answer(letter, replay::hex(&line, 2)))
+    put(out, letter, answer(letter, replay::hex(&line, 2)))?;
+    Ok(true)
 }
 
-fn put(letter: u8, bits: u64) -> bool {
-    io::write_all(STDOUT_FILENO, &[letter, b' ']);
-    io::print_hex(STDOUT_FILENO, bits, 16);
-    io::write_all(STDOUT_FILENO, b"\n")
+fn put<W: Write>(out: &mut W, letter: u8, bits: u64) -> io::Result<()> {
+    out.write_all(&[letter, b' '])?;
+    writeln!(out, "{bits:016x}")
 }
 
-fn main() {
-    let mut left = 1_000_000u64;
-    while 0 < left {
-        if !step() {
-            return;
+// At most a million lines.
+fn run<R: Read, W: Write>(input: &mut R, out: &mut W) -> io::Result<()> {
+    for _ in 0..1_000_000 {
+        if !step(input, out)? {
+            break;
         }
-        left -= 1;
     }
+    out.flush()
+}
+
+fn main(rt: HostRuntime) -> io::Result<()> {
+    let mut input = BufReader::new(rt.alloc(), rt.stdin())?;
+    let mut out = BufWriter::new(rt.alloc(), io::writer(&rt))?;
+    run(&mut input, &mut out)
 }

@@ -12,7 +12,8 @@
 #![tactic(auto)]
 
 use extent::{Extent, Reading};
-use libc::{STDIN_FILENO, STDOUT_FILENO};
+use std::io;
+use std::io::{BufReader, BufWriter, Read, Write};
 
 // A letter, a space, 16 digits and a line feed.
 const LINE: usize = 19;
@@ -37,95 +38,98 @@ fn set(e: Extent, letter: u8, v: f64) -> Extent {
     }
 }
 
-fn read(e: Extent) {
+fn read<W: Write>(out: &mut W, e: Extent) -> io::Result<()> {
     let r = extent::read_extent(e);
     match r {
-        Reading::Refused(q) => {
-            io::print_decimal(STDOUT_FILENO, q);
-        }
+        Reading::Refused(q) => writeln!(out, "{q}"),
         Reading::Read(mean, radius) => {
-            io::print_decimal(STDOUT_FILENO, mean);
-            io::write_all(STDOUT_FILENO, b" ");
-            io::print_hex(STDOUT_FILENO, doubles::bits_of(radius), 16);
+            let bits = doubles::bits_of(radius);
+            writeln!(out, "{mean} {bits:016x}")
         }
     }
-    io::write_all(STDOUT_FILENO, b"\n");
 }
 
-fn put(x: f64) {
-    io::print_hex(STDOUT_FILENO, doubles::bits_of(x), 16);
-    io::write_all(STDOUT_FILENO, b"\n");
+fn put<W: Write>(out: &mut W, x: f64) -> io::Result<()> {
+    let bits = doubles::bits_of(x);
+    writeln!(out, "{bits:016x}")
 }
 
 // Radius, exponent, shaping or kernel by itself.
-fn tell(e: Extent, letter: u8, n: u64) {
-    match letter {
-        b'd' => put(extent::extent_radius(doubles::of_bits(n))),
-        b'e' => put(extent::shaping_exponent(doubles::of_bits(n))),
-        b's' => put(extent::shaped(e.x, doubles::of_bits(n))),
-        _ => put(extent::compact_quartic_kernel(e.x, e.y, e.z, n == 1)),
-    }
+fn tell<W: Write>(out: &mut W, e: Extent, letter: u8, n: u64) -> io::Result<()> {
+    put(
+        out,
+        match letter {
+            b'd' => extent::extent_radius(doubles::of_bits(n)),
+            b'e' => extent::shaping_exponent(doubles::of_bits(n)),
+            b's' => extent::shaped(e.x, doubles::of_bits(n)),
+            _ => extent::compact_quartic_kernel(e.x, e.y, e.z, n == 1),
+        },
+    )
 }
 
 // The mean of three components of a pattern, and what stands behind it.
-fn put_mean(bits: u64, behind: u8) {
+fn put_mean<W: Write>(out: &mut W, bits: u64, behind: u8) -> io::Result<()> {
     let v = doubles::of_bits(bits);
     let r = extent::read_extent(Extent { x: v, y: v, z: v });
     match r {
         Reading::Refused(_) => {}
         Reading::Read(mean, _) => {
-            io::print_decimal(STDOUT_FILENO, mean);
+            write!(out, "{mean}")?;
         }
     }
-    io::write_all(STDOUT_FILENO, &[behind]);
+    out.write_all(&[behind])
 }
 
-fn put_half(k: u64) {
+fn put_half<W: Write>(out: &mut W, k: u64) -> io::Result<()> {
     let bits = doubles::bits_of(std::num::nearest_u64_to_f64(k) / 65536.0);
-    put_mean(std::num::wrapping_sub_u64(bits, 1), b' ');
-    put_mean(bits, b' ');
-    put_mean(std::num::wrapping_add_u64(bits, 1), b'\n');
+    put_mean(out, bits.wrapping_sub(1), b' ')?;
+    put_mean(out, bits, b' ')?;
+    put_mean(out, bits.wrapping_add(1), b'\n')
 }
 
-fn put_halves(from: u64) {
-    let mut i = 0u64;
-    while i < 128 {
-        put_half(from % 65536 + 2 * i);
-        i += 1;
+fn put_halves<W: Write>(out: &mut W, from: u64) -> io::Result<()> {
+    for i in 0..128 {
+        put_half(out, from % 65536 + 2 * i)?;
     }
+    Ok(())
 }
 
 // One command.
-fn step(e: Extent, letter: u8, n: u64) -> Extent {
+fn step<W: Write>(out: &mut W, e: Extent, letter: u8, n: u64) -> io::Result<Extent> {
     if letter == b'r' {
-        read(e);
-        return e;
+        read(out, e)?;
+        return Ok(e);
     }
     if letter == b'h' {
-        put_halves(n);
-        return e;
+        put_halves(out, n)?;
+        return Ok(e);
     }
     if letter < b'x' {
-        tell(e, letter, n);
-        return e;
+        tell(out, e, letter, n)?;
+        return Ok(e);
     }
-    set(e, letter, doubles::of_bits(n))
+    Ok(set(e, letter, doubles::of_bits(n)))
 }
 
 // A turn for each line, at most a million.
-fn main() {
+fn run<R: Read, W: Write>(input: &mut R, out: &mut W) -> io::Result<()> {
     let mut e = Extent {
         x: 0.0,
         y: 0.0,
         z: 0.0,
     };
-    let mut left = 1_000_000u64;
-    while 0 < left {
+    for _ in 0..1_000_000 {
         let mut line = [0u8; 19];
-        if io::read_full(STDIN_FILENO, &mut line) < LINE {
-            return;
+        if record_io::read_full(input, &mut line)? < LINE {
+            break;
         }
-        e = step(e, line[0], replay::hex(&line, 2));
-        left -= 1;
+        e = step(out, e, line[0], replay::hex(&line, 2))?;
     }
+    out.flush()
+}
+
+fn main(rt: HostRuntime) -> io::Result<()> {
+    let mut input = BufReader::new(rt.alloc(), rt.stdin())?;
+    let mut out = BufWriter::new(rt.alloc(), io::writer(&rt))?;
+    run(&mut input, &mut out)
 }

@@ -17,7 +17,8 @@
 
 use extent::{Extent, Reading};
 use layout::{Anchor, Centre, Channel, Layout};
-use libc::{STDIN_FILENO, STDOUT_FILENO};
+use std::io;
+use std::io::{BufReader, BufWriter, Read, Write};
 
 // Three digits, a space, 16 digits and a line feed.
 const LINE: usize = 21;
@@ -114,36 +115,32 @@ fn number(store: &[f64], i: usize) -> u64 {
     }
 }
 
-fn tell(store: &mut [f64], l: Layout, k: u64, v: u64) {
+fn tell<W: Write>(out: &mut W, store: &mut [f64], l: Layout, k: u64, v: u64) -> io::Result<()> {
     if k == 910 {
         spread(store, doubles::of_bits(v));
-        return;
+        return Ok(());
     }
     if k == 923 {
         fill_often(store, l, v);
-        return;
+        return Ok(());
     }
     if k == 920 {
-        if fill(store, v as usize, l) {
-            io::write_all(STDOUT_FILENO, b"1\n");
+        return if fill(store, v as usize, l) {
+            out.write_all(b"1\n")
         } else {
-            io::write_all(STDOUT_FILENO, b"0\n");
-        }
-        return;
+            out.write_all(b"0\n")
+        };
     }
     if k == 921 {
-        io::print_decimal(
-            STDOUT_FILENO,
-            hash(
-                store,
-                (v / 0x1_0000_0000) as usize,
-                (v % 0x1_0000_0000) as usize,
-            ),
+        let h = hash(
+            store,
+            (v / 0x1_0000_0000) as usize,
+            (v % 0x1_0000_0000) as usize,
         );
+        writeln!(out, "{h}")
     } else {
-        io::print_hex(STDOUT_FILENO, number(store, v as usize), 16);
+        line_of(out, number(store, v as usize))
     }
-    io::write_all(STDOUT_FILENO, b"\n");
 }
 
 fn placed(o: Object, k: u64, x: f64) -> Object {
@@ -207,39 +204,41 @@ fn put(store: &mut [f64], i: usize, x: f64) {
     }
 }
 
-fn line_of(bits: u64) {
-    io::print_hex(STDOUT_FILENO, bits, 16);
-    io::write_all(STDOUT_FILENO, b"\n");
+fn line_of<W: Write>(out: &mut W, bits: u64) -> io::Result<()> {
+    writeln!(out, "{bits:016x}")
 }
 
-fn lines_of(gains: &[f64; 24], n: usize) {
-    let mut i = 0usize;
-    while i < n {
+fn lines_of<W: Write>(out: &mut W, gains: &[f64; 24], n: usize) -> io::Result<()> {
+    for i in 0..n {
         if i < 24 {
-            line_of(doubles::bits_of(gains[i]));
+            line_of(out, doubles::bits_of(gains[i]))?;
         }
-        i += 1;
     }
+    Ok(())
 }
 
-fn project(store: &[f64], l: Layout, o: Object, p: usize) {
+fn project<W: Write>(out: &mut W, store: &[f64], l: Layout, o: Object, p: usize) -> io::Result<()> {
     let e = o.extent;
     let r = extent::read_extent(e);
     match r {
-        Reading::Refused(q) => {
-            io::print_decimal(STDOUT_FILENO, q);
-            io::write_all(STDOUT_FILENO, b"\n");
-        }
+        Reading::Refused(q) => writeln!(out, "{q}"),
         Reading::Read(mean, radius) => {
-            io::print_decimal(STDOUT_FILENO, mean);
-            io::write_all(STDOUT_FILENO, b" ");
-            line_of(doubles::bits_of(radius));
-            gains_of(store, l, o, p, mean, radius);
+            write!(out, "{mean} ")?;
+            line_of(out, doubles::bits_of(radius))?;
+            gains_of(out, store, l, o, p, mean, radius)
         }
     }
 }
 
-fn gains_of(store: &[f64], l: Layout, o: Object, p: usize, mean: u64, radius: f64) {
+fn gains_of<W: Write>(
+    out: &mut W,
+    store: &[f64],
+    l: Layout,
+    o: Object,
+    p: usize,
+    mean: u64,
+    radius: f64,
+) -> io::Result<()> {
     let mut gains = [7.0f64; 24];
     let points = o.points;
     let n = channels::active_count(l);
@@ -255,9 +254,9 @@ fn gains_of(store: &[f64], l: Layout, o: Object, p: usize, mean: u64, radius: f6
         c,
         &points,
     ) {
-        lines_of(&gains, n);
+        lines_of(out, &gains, n)
     } else {
-        io::write_all(STDOUT_FILENO, b"refused\n");
+        out.write_all(b"refused\n")
     }
 }
 
@@ -374,55 +373,62 @@ fn project_often(store: &[f64], l: Layout, o: Object, count: u64) {
 }
 
 // One command.
-fn step(store: &mut [f64], b: Setting, k: u64, v: u64) -> Setting {
+fn step<W: Write>(
+    out: &mut W,
+    store: &mut [f64],
+    b: Setting,
+    k: u64,
+    v: u64,
+) -> io::Result<Setting> {
     let s = b.state;
     let o = b.object;
     let l = s.now;
     if k < 910 {
-        return Setting {
+        return Ok(Setting {
             state: done(s, k, v),
             object: o,
-        };
+        });
     }
     if k < 930 {
-        tell(store, l, k, v);
-        return b;
+        tell(out, store, l, k, v)?;
+        return Ok(b);
     }
     if (k < 939) | (k == 942) {
-        return Setting {
+        return Ok(Setting {
             state: s,
             object: brought(o, k, v),
-        };
+        });
     }
     if k == 939 {
         put(store, o.index, doubles::of_bits(v));
-        return b;
+        return Ok(b);
     }
     if k == 940 {
-        project(store, l, o, v as usize);
+        project(out, store, l, o, v as usize)?;
     } else if k == 943 {
-        gains_of(store, l, o, v as usize, 1, o.radius);
+        gains_of(out, store, l, o, v as usize, 1, o.radius)?;
     } else {
         project_often(store, l, o, v);
     }
-    b
+    Ok(b)
 }
 
 // A turn for each line, at most a million.
-fn run(store: &mut [f64]) {
+fn run<R: Read, W: Write>(input: &mut R, out: &mut W, store: &mut [f64]) -> io::Result<()> {
     let mut b = empty();
-    let mut left = 1_000_000u64;
-    while 0 < left {
+    for _ in 0..1_000_000 {
         let mut line = [0u8; 21];
-        if io::read_full(STDIN_FILENO, &mut line) < LINE {
-            return;
+        if record_io::read_full(input, &mut line)? < LINE {
+            break;
         }
-        b = step(store, b, replay::three(&line), replay::hex(&line, 4));
-        left -= 1;
+        b = step(out, store, b, replay::three(&line), replay::hex(&line, 4))?;
     }
+    out.flush()
 }
 
-fn main() {
+fn main(rt: HostRuntime) -> io::Result<()> {
+    let mut input = BufReader::new(rt.alloc(), rt.stdin())?;
+    let mut out = BufWriter::new(rt.alloc(), io::writer(&rt))?;
     let mut store = [0.0f64; 285312];
-    run(&mut store);
+    run(&mut input, &mut out, &mut store)
 }

@@ -13,7 +13,8 @@
 #![tactic(auto)]
 
 use layout::{Anchor, Channel, Layout};
-use libc::{STDIN_FILENO, STDOUT_FILENO};
+use std::io;
+use std::io::{BufReader, BufWriter, Read, Write};
 
 // Three digits, a space, 16 digits and a line feed.
 const LINE: usize = 21;
@@ -116,18 +117,18 @@ fn add(l: Layout, k: u64, name: u64, v: u64) -> Layout {
     }
 }
 
-fn put(n: u64, end: &[u8]) {
-    io::print_decimal(STDOUT_FILENO, n);
-    io::write_all(STDOUT_FILENO, end);
+fn put<W: Write>(out: &mut W, n: u64, end: &[u8]) -> io::Result<()> {
+    write!(out, "{n}")?;
+    out.write_all(end)
 }
 
-fn ask(l: Layout) {
+fn ask<W: Write>(out: &mut W, l: Layout) -> io::Result<()> {
     let mut key = [0u64; 156];
     keys::pack(l, 0, &mut key);
-    put(questions::first_no(&key), b" ");
-    put(channels::active_count(l) as u64, b" ");
-    put(layout::row_total(l) as u64, b" ");
-    put(layout::anchor_total(l) as u64, b"\n");
+    put(out, questions::first_no(&key), b" ")?;
+    put(out, channels::active_count(l) as u64, b" ")?;
+    put(out, layout::row_total(l) as u64, b" ")?;
+    put(out, layout::anchor_total(l) as u64, b"\n")
 }
 
 // Whether two keys are equal.
@@ -142,15 +143,15 @@ fn is_same(a: &[u64; 156], b: &[u64; 156]) -> bool {
     true
 }
 
-fn compare(a: Layout, b: Layout) {
+fn compare<W: Write>(out: &mut W, a: Layout, b: Layout) -> io::Result<()> {
     let mut first = [0u64; 156];
     keys::pack(a, 0, &mut first);
     let mut second = [0u64; 156];
     keys::pack(b, 0, &mut second);
     if is_same(&first, &second) {
-        io::write_all(STDOUT_FILENO, b"same\n");
+        out.write_all(b"same\n")
     } else {
-        io::write_all(STDOUT_FILENO, b"other\n");
+        out.write_all(b"other\n")
     }
 }
 
@@ -158,10 +159,10 @@ fn place_among(names: &[u64; 24], n: usize, name: u64) -> usize {
     channels::index_of(names, n, name)
 }
 
-fn place(l: Layout, name: u64) {
+fn place<W: Write>(out: &mut W, l: Layout, name: u64) -> io::Result<()> {
     let mut names = [0u64; 24];
     let n = channels::active_names(l, &mut names);
-    put(place_among(&names, n, name) as u64, b"\n");
+    put(out, place_among(&names, n, name) as u64, b"\n")
 }
 
 fn done(s: State, k: u64, v: u64) -> State {
@@ -203,37 +204,48 @@ fn done(s: State, k: u64, v: u64) -> State {
     }
 }
 
-fn tell(s: State, k: u64, v: u64) {
+fn tell<W: Write>(out: &mut W, s: State, k: u64, v: u64) -> io::Result<()> {
     let l = s.now;
     let aside = s.aside;
     if k == 920 {
-        ask(l);
+        ask(out, l)
     } else if k == 921 {
-        compare(l, aside);
+        compare(out, l, aside)
     } else {
-        place(l, v);
+        place(out, l, v)
     }
 }
 
-fn main() {
+// One line.
+fn step<W: Write>(out: &mut W, s: State, line: &[u8; 21]) -> io::Result<State> {
+    let k = replay::three(line);
+    let v = replay::hex(line, 4);
+    if k < 920 {
+        return Ok(done(s, k, v));
+    }
+    tell(out, s, k, v)?;
+    Ok(s)
+}
+
+// A turn for each line, at most a million.
+fn run<R: Read, W: Write>(input: &mut R, out: &mut W) -> io::Result<()> {
     let mut s = State {
         now: Layout::new(),
         aside: Layout::new(),
         name: 0,
     };
-    let mut left = 1_000_000u64;
-    while 0 < left {
+    for _ in 0..1_000_000 {
         let mut line = [0u8; 21];
-        if io::read_full(STDIN_FILENO, &mut line) < LINE {
-            return;
+        if record_io::read_full(input, &mut line)? < LINE {
+            break;
         }
-        let k = replay::three(&line);
-        let v = replay::hex(&line, 4);
-        if k < 920 {
-            s = done(s, k, v);
-        } else {
-            tell(s, k, v);
-        }
-        left -= 1;
+        s = step(out, s, &line)?;
     }
+    out.flush()
+}
+
+fn main(rt: HostRuntime) -> io::Result<()> {
+    let mut input = BufReader::new(rt.alloc(), rt.stdin())?;
+    let mut out = BufWriter::new(rt.alloc(), io::writer(&rt))?;
+    run(&mut input, &mut out)
 }

@@ -13,8 +13,9 @@
 
 use classes::BedMatch;
 use layout::{Anchor, Channel, Layout};
-use libc::{STDIN_FILENO, STDOUT_FILENO};
 use region::{RegionHorizontalState, RegionSemanticState, RegionTopBottomState, Zones};
+use std::io;
+use std::io::{BufReader, BufWriter, Read, Write};
 
 // Three digits, a space, 16 digits and a line feed.
 const LINE: usize = 21;
@@ -59,9 +60,9 @@ fn done(s: State, k: u64, v: u64) -> State {
     }
 }
 
-fn put(n: u64, end: &[u8]) {
-    io::print_decimal(STDOUT_FILENO, n);
-    io::write_all(STDOUT_FILENO, end);
+fn put<W: Write>(out: &mut W, n: u64, end: &[u8]) -> io::Result<()> {
+    write!(out, "{n}")?;
+    out.write_all(end)
 }
 
 fn horizontal_of(n: u64) -> RegionHorizontalState {
@@ -93,22 +94,22 @@ fn top_number(t: RegionTopBottomState) -> u64 {
     }
 }
 
-fn tell_state(s: RegionSemanticState) {
+fn tell_state<W: Write>(out: &mut W, s: RegionSemanticState) -> io::Result<()> {
     let h = s.horizontal;
     let t = s.top;
-    put(number_of(h), b" ");
-    put(top_number(t), b" ");
-    put(region::is_default(s) as u64, b" ");
+    put(out, number_of(h), b" ")?;
+    put(out, top_number(t), b" ")?;
+    put(out, region::is_default(s) as u64, b" ")?;
     let flags = region::to_decoded_zones(s);
-    put(flags[0] as u64, b"");
-    put(flags[1] as u64, b"");
-    put(flags[2] as u64, b"");
-    put(flags[3] as u64, b"");
-    put(flags[4] as u64, b"");
-    put(flags[5] as u64, b"\n");
+    put(out, flags[0] as u64, b"")?;
+    put(out, flags[1] as u64, b"")?;
+    put(out, flags[2] as u64, b"")?;
+    put(out, flags[3] as u64, b"")?;
+    put(out, flags[4] as u64, b"")?;
+    put(out, flags[5] as u64, b"\n")
 }
 
-fn tell_flags(v: u64) {
+fn tell_flags<W: Write>(out: &mut W, v: u64) -> io::Result<()> {
     let flags = [
         v / 32 % 2 == 1,
         v / 16 % 2 == 1,
@@ -119,8 +120,8 @@ fn tell_flags(v: u64) {
     ];
     let z = region::from_decoded_zones(flags);
     match z {
-        Zones::State(s) => tell_state(s),
-        Zones::Refused(n) => put(n, b"\n"),
+        Zones::State(s) => tell_state(out, s),
+        Zones::Refused(n) => put(out, n, b"\n"),
     }
 }
 
@@ -132,22 +133,21 @@ fn bed_number(b: BedMatch) -> u64 {
     }
 }
 
-fn tell_bed(h: u64, name: u64, five: bool) {
+fn tell_bed<W: Write>(out: &mut W, h: u64, name: u64, five: bool) -> io::Result<()> {
     let state = horizontal_of(h);
     put(
+        out,
         bed_number(classes::matches_bed_state(state, name, five)),
         b"",
-    );
+    )
 }
 
-fn tell_name(name: u64) {
-    let mut h = 0u64;
-    while h < 6 {
-        tell_bed(h, name, false);
-        tell_bed(h, name, true);
-        h += 1;
+fn tell_name<W: Write>(out: &mut W, name: u64) -> io::Result<()> {
+    for h in 0..6 {
+        tell_bed(out, h, name, false)?;
+        tell_bed(out, h, name, true)?;
     }
-    io::write_all(STDOUT_FILENO, b"\n");
+    out.write_all(b"\n")
 }
 
 // A hash and half a pattern more.
@@ -190,13 +190,13 @@ fn count(key: &[u64; 156], a: usize, n: usize) -> u64 {
     s as u64
 }
 
-fn tell_room(key: &[u64; 156]) {
-    put(key[153], b" ");
-    put(count(key, 48, 4), b" ");
-    put(count(key, 52, 24), b" ");
-    put(hash_parts(key, 100, 48, 4), b" ");
-    put(hash_parts(key, 104, 52, 24), b" ");
-    put(hash_parts(key, 76, 128, 24), b"\n");
+fn tell_room<W: Write>(out: &mut W, key: &[u64; 156]) -> io::Result<()> {
+    put(out, key[153], b" ")?;
+    put(out, count(key, 48, 4), b" ")?;
+    put(out, count(key, 52, 24), b" ")?;
+    put(out, hash_parts(key, 100, 48, 4), b" ")?;
+    put(out, hash_parts(key, 104, 52, 24), b" ")?;
+    put(out, hash_parts(key, 76, 128, 24), b"\n")
 }
 
 fn state_of(v: u64) -> RegionSemanticState {
@@ -231,7 +231,7 @@ fn put_places(l: Layout, key: &mut [u64; 156]) {
     }
 }
 
-fn tell_selected(l: Layout, v: u64) {
+fn tell_selected<W: Write>(out: &mut W, l: Layout, v: u64) -> io::Result<()> {
     let s = state_of(v);
     let mut key = [0u64; 156];
     keys::pack(l, 0, &mut key);
@@ -239,42 +239,53 @@ fn tell_selected(l: Layout, v: u64) {
     put_places(l, &mut key);
     let refusal = selection::derive_selected_layout(&mut key, s);
     if refusal == 0 {
-        put(0, b" ");
-        tell_room(&key);
+        put(out, 0, b" ")?;
+        tell_room(out, &key)
     } else {
-        put(refusal, b"\n");
+        put(out, refusal, b"\n")
     }
 }
 
-fn tell(s: State, k: u64, v: u64) {
+fn tell<W: Write>(out: &mut W, s: State, k: u64, v: u64) -> io::Result<()> {
     let l = s.now;
     if k == 910 {
-        tell_flags(v);
+        tell_flags(out, v)
     } else if k == 911 {
-        tell_name(v);
+        tell_name(out, v)
     } else {
-        tell_selected(l, v);
+        tell_selected(out, l, v)
     }
 }
 
-fn main() {
+// One line.
+fn step<W: Write>(out: &mut W, s: State, line: &[u8; 21]) -> io::Result<State> {
+    let k = replay::three(line);
+    let v = replay::hex(line, 4);
+    if k < 910 {
+        return Ok(done(s, k, v));
+    }
+    tell(out, s, k, v)?;
+    Ok(s)
+}
+
+// A turn for each line, at most a million.
+fn run<R: Read, W: Write>(input: &mut R, out: &mut W) -> io::Result<()> {
     let mut s = State {
         now: Layout::new(),
         name: 0,
     };
-    let mut left = 1_000_000u64;
-    while 0 < left {
+    for _ in 0..1_000_000 {
         let mut line = [0u8; 21];
-        if io::read_full(STDIN_FILENO, &mut line) < LINE {
-            return;
+        if record_io::read_full(input, &mut line)? < LINE {
+            break;
         }
-        let k = replay::three(&line);
-        let v = replay::hex(&line, 4);
-        if k < 910 {
-            s = done(s, k, v);
-        } else {
-            tell(s, k, v);
-        }
-        left -= 1;
+        s = step(out, s, &line)?;
     }
+    out.flush()
+}
+
+fn main(rt: HostRuntime) -> io::Result<()> {
+    let mut input = BufReader::new(rt.alloc(), rt.stdin())?;
+    let mut out = BufWriter::new(rt.alloc(), io::writer(&rt))?;
+    run(&mut input, &mut out)
 }
