@@ -1,5 +1,5 @@
 -- The laws of doubles that other crates cite, in one place. `clear x`: x is NaN, or its sign is clear, so it is no -0. `not_neg x`: x is NaN, or not below zero. Assumes nothing.
-use Rattle.std.proofs.Common.{◌≡◌, ◌-◌, true, T, List, pos, subst}
+use Rattle.std.proofs.Common.{◌≡◌, true, T, List, pos, subst}
 use mathlib.Core.List.{Memᴰ}
 use lib.Ieee.{Float, fin, binary64, lt, le, fits}
 use lib.Ieee.Fits as fit

@@ -1,5 +1,5 @@
 -- The order of values whose sign is clear is that of their sizes in units. A fraction up to such a value is rounded to no more than it, and one from it up to no less. Assumes nothing.
-use Rattle.std.proofs.Common.{◌≡◌, ℕ, ◌+◌, ◌-◌, ◌*◌, ◌^◌, ◌<◌, ◌≤◌, Bool, true, false, ◌&&◌, ◌||◌, T, eqb, ltb, ◌⊎◌, sym, subst, inl, inr, true≢false, le_trans, le_of_eq, le-add_right, le_of_lt, mul-le-mul_right, mul_assoc, mul-pos, le_of_mul-le-mul_right, le-add_left, eqb→eq, ltb→lt, pow_pos}
+use Rattle.std.proofs.Common.{◌≡◌, ℕ, ◌+◌, ◌*◌, ◌^◌, ◌<◌, ◌≤◌, Bool, true, false, ◌&&◌, ◌||◌, T, eqb, ltb, ◌⊎◌, sym, subst, inl, inr, true≢false, le_trans, le_of_eq, le-add_right, le_of_lt, mul-le-mul_right, mul_assoc, mul-pos, le_of_mul-le-mul_right, le-add_left, eqb→eq, ltb→lt, pow_pos}
 use lib.Ieee.{Float, nan, inf, fin, Format, low, up, down, round, add, le, fits}
 use lib.Ieee.Fits.{and_l, down_pos, round-fits}
 use lib.Ieee.Exact.{HasValue}

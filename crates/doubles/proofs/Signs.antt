@@ -1,6 +1,6 @@
 -- Which values have no sign, or are not negative, and that sums, products, quotients and roots of such values are such values. Assumes nothing.
 use Rattle.std.proofs.Common.{◌≡◌, ℕ, zero, suc, ◌+◌, ◌-◌, ◌*◌, ◌^◌, ◌<◌, Bool, true, false, cond, not, T, eqb, ltb, pos, sym, refl, ap, ◌∙◌, subst, zero-le, le_of_eq, lt_of_lt_of_le, lt_of_le_of_lt, lt_irrefl, mul_comm, mul-pos, zero-mul, eqb→eq, ltb→lt}
-use lib.Ieee.{Float, nan, inf, fin, Format, prec, emax, low, up, down, odd, units, round, sum, add, mul, div, lt, fits}
+use lib.Ieee.{Float, nan, inf, fin, Format, prec, emax, low, up, down, odd, units, round, sum, add, mul, div, fits}
 use lib.Ieee.Fits.{round_is, down_pos}
 use Rattle.doubles.proofs.Magnitude.{round-at}
 

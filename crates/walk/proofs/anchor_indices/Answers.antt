@@ -1,13 +1,11 @@
 -- The first i entries are written.
-use Prim.Native.Nat.{◌-◌}
-use mathlib.Core.Path.{◌≡◌, refl, sym, ap, ◌∙◌}
-use mathlib.Core.List.{map}
+use mathlib.Core.Path.{refl, sym, ap, ◌∙◌}
 use native.Mathlib.Omega.{arith}
 use borrow.Author.Rules.{rules}
 use lib.ListN.{length, get_or, replicate, length-map, get_or-map}
 use Rattle.lists.specs.Lists.{index_of}
 use Rattle.lists.proofs.Loops.{long}
-use Rattle.lists.proofs.Fill.{Filled, fill_none, fill_more, fill_done}
+use Rattle.lists.proofs.Fill.{fill_none, fill_more, fill_done}
 use Rattle.layout.specs.Steps.Starts.{anchor_index, no_anchor}
 use Rattle.layout.proofs.ActiveNames.{names-length, names-front}
 use Rattle.walk.proofs.anchor_indices.Goals as goal

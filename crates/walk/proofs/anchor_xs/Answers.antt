@@ -1,11 +1,9 @@
 -- The first i entries are written.
-use Prim.Native.Nat.{◌-◌}
-use mathlib.Core.List.{map}
 use native.Mathlib.Omega.{arith}
 use borrow.Author.Rules.{rules}
 use lib.ListN.{length-map}
 use Rattle.lists.proofs.Loops.{long}
-use Rattle.lists.proofs.Fill.{Filled, fill_none, fill-map, fill_done}
+use Rattle.lists.proofs.Fill.{fill_none, fill-map, fill_done}
 use Rattle.layout.specs.Topology.{anchor_x}
 use Rattle.layout.specs.Steps.Starts.{no_anchor}
 use Rattle.walk.proofs.anchor_xs.Goals as goal

@@ -1,12 +1,12 @@
 -- The first i entries are written, each the start of the anchors of the layer's first row.
-use Prim.Native.Nat.{ℕ, suc, ◌≤◌, ◌<◌, ◌-◌}
+use Prim.Native.Nat.{ℕ, suc, ◌≤◌, ◌<◌}
 use mathlib.Core.Path.{◌≡◌, ap, ◌∙◌}
 use mathlib.Core.List.{List, map}
 use native.Mathlib.Omega.{arith}
 use borrow.Author.Rules.{rules}
 use lib.ListN.{length, get_or, length-map}
 use Rattle.lists.proofs.Loops.{long}
-use Rattle.lists.proofs.Fill.{Filled, fill_none, fill-map, fill_done}
+use Rattle.lists.proofs.Fill.{fill_none, fill-map, fill_done}
 use Rattle.layout.specs.declared.Layer.{Layer}
 use Rattle.layout.specs.Topology.{layer_count}
 use Rattle.layout.specs.Steps.Starts.{starts_from}

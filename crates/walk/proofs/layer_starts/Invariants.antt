@@ -1,13 +1,7 @@
-use Prim.Native.Nat.{ℕ, suc, ◌≤◌, ◌<◌, ◌-◌}
-use mathlib.Core.Path.{◌≡◌, ap, ◌∙◌}
-use mathlib.Core.List.{List, map}
-use native.Mathlib.Omega.{arith}
-use borrow.Author.Rules.{rules}
-use lib.ListN.{length, get_or, length-map}
-use Rattle.lists.proofs.Loops.{long}
-use Rattle.lists.proofs.Fill.{Filled, fill_none, fill-map, fill_done}
-use Rattle.layout.specs.Topology.{layer_count}
-use Rattle.layout.proofs.StartsFrom.{starts-length, starts-most}
+use Prim.Native.Nat.{ℕ, ◌-◌}
+use mathlib.Core.List.{map}
+use lib.ListN.{get_or}
+use Rattle.lists.proofs.Fill.{Filled}
 use Rattle.walk.proofs.layer_starts.Given as goal
 
 abbrev pub invariant-loop-i : goal.invariant-loop-i

@@ -1,12 +1,7 @@
 use Prim.Native.Nat.{◌-◌}
 use mathlib.Core.List.{map}
-use native.Mathlib.Omega.{arith}
-use borrow.Author.Rules.{rules}
-use lib.ListN.{length-map}
-use Rattle.lists.proofs.Loops.{long}
-use Rattle.lists.proofs.Fill.{Filled, fill_none, fill-map, fill_done}
+use Rattle.lists.proofs.Fill.{Filled}
 use Rattle.layout.specs.Topology.{row_y}
-use Rattle.layout.specs.Steps.Starts.{no_row}
 use Rattle.walk.proofs.row_ys.Given as goal
 
 abbrev pub invariant-loop-i : goal.invariant-loop-i

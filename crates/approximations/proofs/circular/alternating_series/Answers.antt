@@ -1,5 +1,5 @@
 -- `circular::alternating_series` meets its contract: after each step r is the series from the i-th entry on. Assumes nothing.
-use Rattle.std.proofs.Common.{◌≡◌, ℕ, ◌-◌, ◌<◌, length, drop, ap, ◌∙◌, arith, rules}
+use Rattle.std.proofs.Common.{◌≡◌, ℕ, ◌-◌, length, drop, ap, ◌∙◌, arith}
 use lib.Ieee.{of_bits}
 use Rattle.approximations.specs.Circular.{series}
 use Rattle.doubles.proofs.Floors.{casts}

@@ -1,8 +1,5 @@
-use Rattle.std.proofs.Common.{◌≡◌, ℕ, ◌-◌, ◌<◌, length, drop, ap, ◌∙◌, arith, rules}
-use lib.Ieee.{of_bits}
+use Rattle.std.proofs.Common.{◌≡◌, ◌<◌, length, drop}
 use Rattle.approximations.specs.Circular.{series}
-use Rattle.doubles.proofs.Floors.{casts}
-use Rattle.approximations.proofs.circular.Series.{series-last, series-step, entry-exact}
 use Rattle.approximations.proofs.circular.alternating_series.Given as goal
 
 abbrev pub invariant-loop-i : goal.invariant-loop-i

@@ -1,5 +1,4 @@
 -- `circular::cosine_series` meets its contract. Assumes nothing.
-use Rattle.std.proofs.Common.{rules}
 use Rattle.approximations.specs.Circular.{cosine_series}
 use Rattle.approximations.proofs.circular.cosine_series.Goals as goal
 

@@ -1,5 +1,5 @@
 -- `circular::sine_series` meets its contract. Assumes nothing.
-use Rattle.std.proofs.Common.{ap, rules}
+use Rattle.std.proofs.Common.{ap}
 use lib.Ieee.{Float}
 use Rattle.doubles.specs.Arithmetic.{◌⊗◌}
 use Rattle.approximations.specs.Circular.{sine_series}

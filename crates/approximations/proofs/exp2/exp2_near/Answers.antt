@@ -1,6 +1,5 @@
 -- `approximations::exp2::exp2_near` meets its contract, by `proofs/exp2/Ranges.antt` and `Finite.antt`. Assumes nothing.
-use Rattle.std.proofs.Common.{T, sym, subst, rules}
-use lib.Ieee.{Float, binary64, fits}
+use Rattle.std.proofs.Common.{T, sym, subst}
 use Rattle.approximations.specs.Exp2.{NormalExponent}
 use Rattle.approximations.proofs.exp2.Finite.{near-is}
 use Rattle.approximations.proofs.exp2.Ranges.{in-range, exponent}

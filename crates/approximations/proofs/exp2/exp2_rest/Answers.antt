@@ -1,8 +1,7 @@
 -- `approximations::exp2::exp2_rest` meets its contract, by `proofs/exp2/Ranges.antt`. Assumes nothing.
-use Rattle.std.proofs.Common.{◌≡◌, Bool, true, false, not, sym, ap, ◌∙◌, subst, w64, rules}
+use Rattle.std.proofs.Common.{◌≡◌, true, false, sym, ◌∙◌, subst, w64}
 use lib.Ieee.{Float, binary64, neg, of_bits, to_signed}
 use lib.Ieee.Casts.{to_signed_in}
-use lib.Ieee.Scale.{finite}
 use mir.ValLaws.{to_z-of_z}
 use Rattle.doubles.specs.Floor.{floor_of}
 use Rattle.approximations.proofs.exp2.Ranges.{tested, out-is, casts, in_is, not-finite-is}
@@ -21,8 +20,8 @@ pub truncating_f64_to_i64-requires : goal.truncating_f64_to_i64-requires
 unfolding neg of_bits
 truncating_f64_to_i64-requires c =
     let h = (casts c.args.value (sym c.is_finite.ensures ∙ c.if-not-is_finite.false) (subst (λ (n : Float). tested n ≡ false) c.floor-n.ensures c.if-n.false)).0 in record {
-    lower_bound = rw c.floor-n.ensures h.0;
-    upper_bound = rw c.floor-n.ensures h.1;
+      lower_bound = rw c.floor-n.ensures h.0;
+      upper_bound = rw c.floor-n.ensures h.1;
     }
 
 pub returns : goal.returns

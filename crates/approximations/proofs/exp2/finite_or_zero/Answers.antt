@@ -1,5 +1,5 @@
 -- `approximations::exp2::finite_or_zero` meets its contract. Assumes nothing.
-use Rattle.std.proofs.Common.{Bool, cond, sym, ap, ◌∙◌, rules}
+use Rattle.std.proofs.Common.{Bool, cond, sym, ap, ◌∙◌}
 use lib.Ieee.{of_bits}
 use Rattle.doubles.specs.Arithmetic.{zero64}
 use Rattle.approximations.proofs.exp2.finite_or_zero.Goals as goal

@@ -1,5 +1,4 @@
 -- `approximations::log2::approx_log2` meets its contract: the test is what `log2_normal` requires. Assumes nothing.
-use Rattle.std.proofs.Common.{rules}
 use lib.Ieee.{of_bits}
 use Rattle.doubles.proofs.Floors.{yes}
 use Rattle.approximations.proofs.log2.approx_log2.Goals as goal

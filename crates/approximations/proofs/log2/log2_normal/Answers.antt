@@ -1,5 +1,5 @@
 -- `approximations::log2::log2_normal` meets its contract: the mantissa and the exponent from the pattern are those of the definition. Assumes nothing.
-use Rattle.std.proofs.Common.{◌≡◌, ℕ, suc, ◌/◌, ◌^◌, ◌<◌, T, pos, sym, ◌∙◌, subst, arith, rules}
+use Rattle.std.proofs.Common.{◌≡◌, ℕ, suc, ◌/◌, ◌^◌, ◌<◌, T, pos, sym, ◌∙◌, subst, arith}
 use lib.Ieee.{Float, binary64, fits, to_bits}
 use Rattle.doubles.proofs.Exponents.{small-in-float}
 use Rattle.doubles.proofs.Magnitude.{plain-no-nan}

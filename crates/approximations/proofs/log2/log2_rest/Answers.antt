@@ -1,7 +1,6 @@
 -- `approximations::log2::log2_rest` meets its contract: the calls are those of the definition. Assumes nothing.
-use Rattle.std.proofs.Common.{◌≡◌, Bool, true, false, ◌&&◌, T, sym, ◌∙◌, subst, rules}
-use lib.Ieee.{Float, binary64, fits, lt, of_bits}
-use lib.Ieee.Scale.{finite}
+use Rattle.std.proofs.Common.{◌≡◌, Bool, true, false, ◌&&◌, T, sym, ◌∙◌, subst}
+use lib.Ieee.{lt, of_bits}
 use Rattle.doubles.specs.Arithmetic.{zero64}
 use Rattle.doubles.proofs.Finite.{minus-inf-is}
 use Rattle.doubles.proofs.Floors.{yes}

@@ -1,8 +1,7 @@
 -- `approximations::powers::all_near` meets its contract: what was tested and what is left make the whole. Assumes nothing.
-use Rattle.std.proofs.Common.{◌≡◌, ◌-◌, ◌≤◌, ◌&&◌, take, sym, refl, ◌∙◌, arith, rules}
+use Rattle.std.proofs.Common.{sym, refl, ◌∙◌, arith, rules}
 use lib.Ieee.{nan}
-use lib.Seq.{slice}
-use Rattle.approximations.specs.Powers.{each, in_exponents}
+use Rattle.approximations.specs.Powers.{in_exponents}
 use Rattle.approximations.proofs.FirstMapped.{each_more, each-done}
 use Rattle.approximations.proofs.powers.all_near.Goals as goal
 

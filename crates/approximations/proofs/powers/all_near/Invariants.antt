@@ -1,8 +1,6 @@
-use Rattle.std.proofs.Common.{◌≡◌, ◌-◌, ◌≤◌, ◌&&◌, take, sym, refl, ◌∙◌, arith, rules}
-use lib.Ieee.{nan}
+use Rattle.std.proofs.Common.{◌≡◌, ◌-◌, ◌≤◌, ◌&&◌, take}
 use lib.Seq.{slice}
 use Rattle.approximations.specs.Powers.{each, in_exponents}
-use Rattle.approximations.proofs.FirstMapped.{each_more, each-done}
 use Rattle.approximations.proofs.powers.all_near.Given as goal
 
 abbrev pub invariant-loop-i : goal.invariant-loop-i

@@ -1,9 +1,7 @@
 -- `approximations::powers::all_normal` meets its contract: what was tested and what is left make the whole. Assumes nothing.
-use Rattle.std.proofs.Common.{◌≡◌, ◌-◌, ◌≤◌, ◌&&◌, take, sym, refl, ◌∙◌, arith, rules}
+use Rattle.std.proofs.Common.{sym, refl, ◌∙◌, arith, rules}
 use lib.Ieee.{nan}
-use lib.Seq.{slice}
 use Rattle.approximations.specs.Log2.{in_normal}
-use Rattle.approximations.specs.Powers.{each}
 use Rattle.approximations.proofs.FirstMapped.{each_more, each-done}
 use Rattle.approximations.proofs.powers.all_normal.Goals as goal
 

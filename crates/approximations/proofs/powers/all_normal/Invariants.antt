@@ -1,9 +1,7 @@
-use Rattle.std.proofs.Common.{◌≡◌, ◌-◌, ◌≤◌, ◌&&◌, take, sym, refl, ◌∙◌, arith, rules}
-use lib.Ieee.{nan}
+use Rattle.std.proofs.Common.{◌≡◌, ◌-◌, ◌≤◌, ◌&&◌, take}
 use lib.Seq.{slice}
 use Rattle.approximations.specs.Log2.{in_normal}
 use Rattle.approximations.specs.Powers.{each}
-use Rattle.approximations.proofs.FirstMapped.{each_more, each-done}
 use Rattle.approximations.proofs.powers.all_normal.Given as goal
 
 abbrev pub invariant-loop-i : goal.invariant-loop-i

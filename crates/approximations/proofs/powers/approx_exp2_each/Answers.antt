@@ -1,5 +1,5 @@
 -- `approximations::powers::approx_exp2_each` meets its contract. Assumes nothing.
-use Rattle.std.proofs.Common.{length, ◌∙◌, arith, rules}
+use Rattle.std.proofs.Common.{length, ◌∙◌, arith}
 use Rattle.approximations.specs.Exp2.{exp2_of}
 use Rattle.approximations.proofs.FirstMapped.{first-all}
 use Rattle.approximations.proofs.powers.approx_exp2_each.Goals as goal

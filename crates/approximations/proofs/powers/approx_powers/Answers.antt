@@ -1,5 +1,5 @@
 -- `approximations::powers::approx_powers` meets its contract. Assumes nothing.
-use Rattle.std.proofs.Common.{length, ◌∙◌, arith, rules}
+use Rattle.std.proofs.Common.{length, ◌∙◌, arith}
 use Rattle.approximations.specs.Powers.{power_of}
 use Rattle.approximations.proofs.FirstMapped.{first-all}
 use Rattle.approximations.proofs.powers.approx_powers.Goals as goal

@@ -1,8 +1,7 @@
 -- `approximations::powers::exps_any` meets its contract: after i turns the first i are mapped. Assumes nothing.
-use Rattle.std.proofs.Common.{◌≡◌, ◌-◌, ◌≤◌, length, refl, arith, length-set, rules}
+use Rattle.std.proofs.Common.{◌≡◌, refl, arith, length-set, rules}
 use lib.Ieee.{nan}
 use Rattle.approximations.specs.Exp2.{exp2_of}
-use Rattle.approximations.specs.Powers.{map_first}
 use Rattle.approximations.proofs.FirstMapped.{first-at, first_more}
 use Rattle.approximations.proofs.powers.exps_any.Goals as goal
 

@@ -1,8 +1,6 @@
-use Rattle.std.proofs.Common.{◌≡◌, ◌-◌, ◌≤◌, length, refl, arith, length-set, rules}
-use lib.Ieee.{nan}
+use Rattle.std.proofs.Common.{◌≡◌, ◌-◌, ◌≤◌, length}
 use Rattle.approximations.specs.Exp2.{exp2_of}
 use Rattle.approximations.specs.Powers.{map_first}
-use Rattle.approximations.proofs.FirstMapped.{first-at, first_more}
 use Rattle.approximations.proofs.powers.exps_any.Given as goal
 
 abbrev pub invariant-loop-i : goal.invariant-loop-i

@@ -1,9 +1,6 @@
-use Rattle.std.proofs.Common.{◌≡◌, ◌-◌, ◌≤◌, true, false, T, length, get_or, pos, refl, arith, length-set, rules}
-use lib.Ieee.{Float, nan, fin, lt, le}
-use lib.Ieee.Fits.{and_l, and_r}
+use Rattle.std.proofs.Common.{◌≡◌, ◌-◌, ◌≤◌, length}
 use Rattle.approximations.specs.Exp2.{exp2_of}
-use Rattle.approximations.specs.Powers.{map_first, in_exponents}
-use Rattle.approximations.proofs.FirstMapped.{first-at, first_more, each_at}
+use Rattle.approximations.specs.Powers.{map_first}
 use Rattle.approximations.proofs.powers.exps_near.Given as goal
 
 abbrev pub invariant-loop-i : goal.invariant-loop-i

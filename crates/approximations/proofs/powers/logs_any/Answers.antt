@@ -1,9 +1,8 @@
 -- `approximations::powers::logs_any` meets its contract: after i turns the first i are mapped. Assumes nothing.
-use Rattle.std.proofs.Common.{◌≡◌, ◌-◌, ◌≤◌, length, refl, arith, length-set, rules}
+use Rattle.std.proofs.Common.{◌≡◌, refl, arith, length-set, rules}
 use lib.Ieee.{Float, nan}
 use Rattle.doubles.specs.Arithmetic.{◌⊗◌}
 use Rattle.approximations.specs.Log2.{log2_of}
-use Rattle.approximations.specs.Powers.{map_first}
 use Rattle.approximations.proofs.FirstMapped.{first-at, first_more}
 use Rattle.approximations.proofs.powers.logs_any.Goals as goal
 

@@ -1,9 +1,8 @@
-use Rattle.std.proofs.Common.{◌≡◌, ◌-◌, ◌≤◌, length, refl, arith, length-set, rules}
-use lib.Ieee.{Float, nan}
+use Rattle.std.proofs.Common.{◌≡◌, ◌-◌, ◌≤◌, length}
+use lib.Ieee.{Float}
 use Rattle.doubles.specs.Arithmetic.{◌⊗◌}
 use Rattle.approximations.specs.Log2.{log2_of}
 use Rattle.approximations.specs.Powers.{map_first}
-use Rattle.approximations.proofs.FirstMapped.{first-at, first_more}
 use Rattle.approximations.proofs.powers.logs_any.Given as goal
 
 abbrev pub invariant-loop-i : goal.invariant-loop-i

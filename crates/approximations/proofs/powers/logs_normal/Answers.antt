@@ -1,9 +1,8 @@
 -- `approximations::powers::logs_normal` meets its contract: after i turns the first i are mapped. Assumes nothing.
-use Rattle.std.proofs.Common.{◌≡◌, ◌-◌, ◌≤◌, T, length, get_or, refl, arith, length-set, rules}
+use Rattle.std.proofs.Common.{◌≡◌, T, get_or, refl, arith, length-set, rules}
 use lib.Ieee.{Float, nan}
 use Rattle.doubles.specs.Arithmetic.{◌⊗◌}
 use Rattle.approximations.specs.Log2.{log2_of, in_normal}
-use Rattle.approximations.specs.Powers.{map_first}
 use Rattle.approximations.proofs.FirstMapped.{first-at, first_more, each_at}
 use Rattle.approximations.proofs.powers.logs_normal.Goals as goal
 

@@ -1,5 +1,4 @@
 -- `approximations::powers::powers_of` meets its contract: one loop after the other. Assumes nothing.
-use Rattle.std.proofs.Common.{arith, rules}
 use lib.Ieee.{Float}
 use Rattle.doubles.specs.Arithmetic.{◌⊗◌}
 use Rattle.approximations.specs.Exp2.{exp2_of}

@@ -1,12 +1,9 @@
 -- Whether the rest are gains is whether all are.
-use Prim.Native.Nat.{◌≤◌, ◌-◌}
-use mathlib.Core.Path.{◌≡◌, refl, sym, ap, ◌∙◌}
+use mathlib.Core.Path.{refl, sym, ap, ◌∙◌}
 use native.Mathlib.Omega.{arith}
-use borrow.Author.Rules.{rules}
-use borrow.Author.Tests.{not-true, not-false}
 use lib.Ieee.{nan, of_bits, round}
 use lib.ListN.{length}
-use lib.Seq.{slice, take-length}
+use lib.Seq.{take-length}
 use Rattle.lists.specs.Lists.{all_of}
 use Rattle.lists.proofs.Loops.{slice-more, slice-done}
 use Rattle.layout.proofs.QuestionsLoops.{all-not, all-next}

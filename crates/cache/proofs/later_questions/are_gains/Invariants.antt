@@ -1,16 +1,9 @@
 use Prim.Native.Nat.{◌≤◌, ◌-◌}
-use mathlib.Core.Path.{◌≡◌, refl, sym, ap, ◌∙◌}
-use native.Mathlib.Omega.{arith}
-use borrow.Author.Rules.{rules}
-use borrow.Author.Tests.{not-true, not-false}
-use lib.Ieee.{nan, of_bits, round}
+use mathlib.Core.Path.{◌≡◌}
 use lib.ListN.{length}
-use lib.Seq.{slice, take-length}
+use lib.Seq.{slice}
 use Rattle.lists.specs.Lists.{all_of}
-use Rattle.lists.proofs.Loops.{slice-more, slice-done}
-use Rattle.layout.proofs.QuestionsLoops.{all-not, all-next}
 use Rattle.cache.specs.Questions.{is_gain}
-use Rattle.cache.proofs.Later.{gain-is}
 use Rattle.cache.proofs.later_questions.are_gains.Given as goal
 
 abbrev pub invariant-loop-k : goal.invariant-loop-k

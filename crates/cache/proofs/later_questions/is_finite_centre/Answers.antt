@@ -1,5 +1,4 @@
 -- The three answers together.
-use borrow.Author.Rules.{rules}
 use Rattle.cache.proofs.later_questions.is_finite_centre.Goals as goal
 
 pub returns : goal.returns

@@ -1,13 +1,10 @@
 -- Each answer is found after a "yes" to those before it.
 -- ---- the answers so far
-use mathlib.Core.Path.{◌≡◌, sym, ap, ap₂, ◌∙◌}
-use mathlib.Core.Bool.{Bool, true, ◌&&◌}
-use borrow.Author.Rules.{rules}
+use mathlib.Core.Path.{sym, ap, ap₂, ◌∙◌}
+use mathlib.Core.Bool.{Bool, ◌&&◌}
 use borrow.Author.Tests.{not-true, not-false, eq-eqb, ne_eqb}
-use lib.Dec.{eqb}
-use lib.ListN.{length}
 use Rattle.lists.specs.Lists.{all_of}
-use Rattle.cache.specs.Questions.{is_gain, question11, question12}
+use Rattle.cache.specs.Questions.{is_gain}
 use Rattle.cache.proofs.Later.{sizes-are, ring-is, later-11, later-12, later-13, later-14, later-none}
 use Rattle.cache.proofs.later_questions.later_no.Goals as goal
 

@@ -2,7 +2,6 @@
 use Prim.Native.Nat.{◌≤◌}
 use mathlib.Core.Path.{sym, ap, ◌∙◌}
 use native.Mathlib.Omega.{arith}
-use borrow.Author.Rules.{rules}
 use Rattle.cache.specs.Places.{find_from, first_places}
 use Rattle.cache.proofs.KeyCompare.{from-remainder, all-places}
 use Rattle.cache.proofs.places.find.Goals as goal

@@ -1,10 +1,10 @@
 -- What is found in the places that are left is what is found in all.
-use Prim.Native.Nat.{◌-◌, ◌<◌, ◌%◌, ◌+◌}
+use Prim.Native.Nat.{◌<◌, ◌%◌, ◌+◌}
 use mathlib.Core.Path.{refl, sym, ◌∙◌}
 use native.Mathlib.Nat.{mod-lt}
 use native.Mathlib.Omega.{arith}
 use borrow.Author.Rules.{rules}
-use Rattle.cache.proofs.KeyCompare.{Finding, finding-here, finding-next, finding-done}
+use Rattle.cache.proofs.KeyCompare.{finding-here, finding-next, finding-done}
 use Rattle.cache.proofs.places.find_from.Goals as goal
 
 pub loop-i-init : goal.loop-i-init

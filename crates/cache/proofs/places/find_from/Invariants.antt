@@ -1,9 +1,5 @@
-use Prim.Native.Nat.{◌-◌, ◌<◌, ◌%◌, ◌+◌}
-use mathlib.Core.Path.{refl, sym, ◌∙◌}
-use native.Mathlib.Nat.{mod-lt}
-use native.Mathlib.Omega.{arith}
-use borrow.Author.Rules.{rules}
-use Rattle.cache.proofs.KeyCompare.{Finding, finding-here, finding-next, finding-done}
+use Prim.Native.Nat.{◌-◌}
+use Rattle.cache.proofs.KeyCompare.{Finding}
 use Rattle.cache.proofs.places.find_from.Given as goal
 
 abbrev pub invariant-loop-i : goal.invariant-loop-i

@@ -1,6 +1,5 @@
 -- Keys with another epoch differ.
 use Prim.Native.Nat.{◌*◌}
-use borrow.Author.Rules.{rules}
 use native.Mathlib.Omega.{arith}
 use Rattle.cache.proofs.KeyCompare.{word-differs}
 use Rattle.cache.proofs.places.has_key.Goals as goal

@@ -1,8 +1,6 @@
 -- No bit differs so far, and the rests are equal, exactly where the whole is.
-use Prim.Native.Nat.{◌-◌}
-use borrow.Author.Rules.{rules}
 use native.Mathlib.Omega.{arith}
-use Rattle.cache.proofs.KeyCompare.{Compared, compared-none, compared-more, compared-done}
+use Rattle.cache.proofs.KeyCompare.{compared-none, compared-more, compared-done}
 use Rattle.cache.proofs.places.is_key.Goals as goal
 
 pub loop-i-init : goal.loop-i-init

@@ -1,7 +1,5 @@
 use Prim.Native.Nat.{◌-◌}
-use borrow.Author.Rules.{rules}
-use native.Mathlib.Omega.{arith}
-use Rattle.cache.proofs.KeyCompare.{Compared, compared-none, compared-more, compared-done}
+use Rattle.cache.proofs.KeyCompare.{Compared}
 use Rattle.cache.proofs.places.is_key.Given as goal
 
 abbrev pub invariant-loop-i : goal.invariant-loop-i

@@ -1,11 +1,11 @@
 -- The first i words of the key stand at its place.
-use Prim.Native.Nat.{◌-◌, ◌≤◌, ◌*◌}
+use Prim.Native.Nat.{◌*◌}
 use mathlib.Core.Path.{◌≡◌, refl, ◌∙◌}
 use native.Mathlib.Omega.{arith}
 use native.Mathlib.Numerals.{add-one}
 use borrow.Author.Rules.{rules}
-use lib.ListN.{length, length-set}
-use lib.Seq.{paste, paste-zero, paste-suc, take_all}
+use lib.ListN.{length-set}
+use lib.Seq.{paste-zero, paste-suc, take_all}
 use Rattle.cache.proofs.places.put_at.Goals as goal
 
 pub loop-i-preserved : goal.loop-i-preserved

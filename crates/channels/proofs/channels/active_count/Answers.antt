@@ -1,13 +1,10 @@
 -- What is counted and what is left to count make the whole count.
-use Prim.Native.Nat.{◌≤◌, ◌-◌, ◌+◌, min}
 use mathlib.Core.Path.{◌≡◌, sym, ap, ◌∙◌}
-use mathlib.Core.Logic.{⊎_elim}
 use native.Mathlib.Omega.{arith}
 use borrow.Author.Rules.{rules}
 use lib.ListN.{length}
 use Rattle.lists.proofs.Loops.{long}
-use Rattle.layout.specs.Channels.{active_count}
-use Rattle.layout.proofs.ActiveNames.{names_from, names-all, names-done, names-here, names-next}
+use Rattle.layout.proofs.ActiveNames.{names-all, names-done, names-here, names-next}
 use Rattle.channels.proofs.channels.active_count.Goals as goal
 use Rattle.channels.proofs.channels.active_count.Goals.{then-is_active, else-is_active}
 
@@ -23,8 +20,8 @@ loop-i-preserved c =
     let e = names-here c.args.l c.covered-used.result v.invariant.2 v.invariant.3 v.i (omega arith) in
     let f = names-next c.args.l c.covered-used.result v.invariant.2 v.invariant.3 v.i (omega arith) in
     elim c.if-is_active.branch [
-      then-is_active w ↦ omega (arith, ap length (e (sym c.is_active.ensures ∙ w.if-is_active.true)))
-    | else-is_active w ↦ omega (arith, ap length (f (sym c.is_active.ensures ∙ w.if-is_active.false)))
+      | then-is_active w ↦ omega (arith, ap length (e (sym c.is_active.ensures ∙ w.if-is_active.true)))
+      | else-is_active w ↦ omega (arith, ap length (f (sym c.is_active.ensures ∙ w.if-is_active.false)))
     ]
 
 pub returns : goal.returns

@@ -1,12 +1,8 @@
 use Prim.Native.Nat.{◌≤◌, ◌-◌, ◌+◌, min}
-use mathlib.Core.Path.{◌≡◌, sym, ap, ◌∙◌}
-use mathlib.Core.Logic.{⊎_elim}
-use native.Mathlib.Omega.{arith}
-use borrow.Author.Rules.{rules}
+use mathlib.Core.Path.{◌≡◌}
 use lib.ListN.{length}
-use Rattle.lists.proofs.Loops.{long}
 use Rattle.layout.specs.Channels.{active_count}
-use Rattle.layout.proofs.ActiveNames.{names_from, names-all, names-done, names-here, names-next}
+use Rattle.layout.proofs.ActiveNames.{names_from}
 use Rattle.channels.proofs.channels.active_count.Given as goal
 
 abbrev pub invariant-loop-i : goal.invariant-loop-i

@@ -1,16 +1,14 @@
 -- What is written and what is left to write make the whole, and what lies behind is as it was.
-use Prim.Native.Nat.{◌≤◌, ◌-◌, ◌+◌, min}
 use mathlib.Core.Path.{◌≡◌, refl, sym, ap, ◌∙◌}
-use mathlib.Core.Logic.{⊎_elim}
-use mathlib.Core.List.{◌++◌, append-nil}
+use mathlib.Core.List.{append-nil}
 use native.Mathlib.Omega.{arith}
 use borrow.Author.Rules.{rules}
-use lib.ListN.{length, take, drop, length-set, take-append-drop}
+use lib.ListN.{length, take, length-set, take-append-drop}
 use lib.Seq.{length-take-le}
 use Rattle.lists.proofs.Loops.{long}
 use Rattle.lists.proofs.Filter.{store, store-behind}
 use Rattle.layout.specs.Channels.{active_names, active_count}
-use Rattle.layout.proofs.ActiveNames.{names_from, names-all, names-done, names-here, names-next}
+use Rattle.layout.proofs.ActiveNames.{names-all, names-done, names-here, names-next}
 use Rattle.channels.proofs.channels.active_names.Goals as goal
 use Rattle.channels.proofs.channels.active_names.Goals.{then-is_active, else-is_active}
 
@@ -28,24 +26,24 @@ loop-i-preserved c =
     let e = names-here l used v.invariant.2 v.invariant.3 v.i (omega arith) in
     let f = names-next l used v.invariant.2 v.invariant.3 v.i (omega arith) in
     elim c.if-is_active.branch [
-      then-is_active w ↦ rw (w.names-is, w.n-is) (
-      omega arith,
-      omega arith,
-      omega arith,
-      omega arith,
-      simp length-set v.invariant.4,
-      store v.names v.n _ _ _ (omega arith) (rw (e (sym c.is_active.ensures ∙ w.if-is_active.true)) at v.invariant.5),
-      store-behind v.names v.n _ _ v.invariant.6,
-    )
-    | else-is_active w ↦ rw (w.names-is, w.n-is) (
-      omega arith,
-      omega arith,
-      omega arith,
-      omega arith,
-      v.invariant.4,
-      rw (f (sym c.is_active.ensures ∙ w.if-is_active.false)) at v.invariant.5,
-      v.invariant.6,
-    )
+      | then-is_active w ↦ rw (w.names-is, w.n-is) (
+        omega arith,
+        omega arith,
+        omega arith,
+        omega arith,
+        simp length-set v.invariant.4,
+        store v.names v.n _ _ _ (omega arith) (rw (e (sym c.is_active.ensures ∙ w.if-is_active.true)) at v.invariant.5),
+        store-behind v.names v.n _ _ v.invariant.6,
+      )
+      | else-is_active w ↦ rw (w.names-is, w.n-is) (
+        omega arith,
+        omega arith,
+        omega arith,
+        omega arith,
+        v.invariant.4,
+        rw (f (sym c.is_active.ensures ∙ w.if-is_active.false)) at v.invariant.5,
+        v.invariant.6,
+      )
     ]
 
 pub returns : goal.returns
@@ -56,6 +54,6 @@ returns c =
     let front : take v.n v.names ≡ active_names l = rw (done, append-nil) at v.invariant.5 in
     let n : v.n ≡ active_count l = sym (length-take-le v.n v.names (omega arith)) ∙ ap length front in
     record {
-    value = n;
-    out_after = sym (take-append-drop v.n v.names) ∙ rw (front, v.invariant.6, n);
+      value = n;
+      out_after = sym (take-append-drop v.n v.names) ∙ rw (front, v.invariant.6, n);
     }

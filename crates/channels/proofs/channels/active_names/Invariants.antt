@@ -1,15 +1,9 @@
-use Prim.Native.Nat.{◌≤◌, ◌-◌, ◌+◌, min}
-use mathlib.Core.Path.{◌≡◌, refl, sym, ap, ◌∙◌}
-use mathlib.Core.Logic.{⊎_elim}
-use mathlib.Core.List.{◌++◌, append-nil}
-use native.Mathlib.Omega.{arith}
-use borrow.Author.Rules.{rules}
-use lib.ListN.{length, take, drop, length-set, take-append-drop}
-use lib.Seq.{length-take-le}
-use Rattle.lists.proofs.Loops.{long}
-use Rattle.lists.proofs.Filter.{store, store-behind}
-use Rattle.layout.specs.Channels.{active_names, active_count}
-use Rattle.layout.proofs.ActiveNames.{names_from, names-all, names-done, names-here, names-next}
+use Prim.Native.Nat.{◌≤◌, ◌-◌, min}
+use mathlib.Core.Path.{◌≡◌}
+use mathlib.Core.List.{◌++◌}
+use lib.ListN.{length, take, drop}
+use Rattle.layout.specs.Channels.{active_names}
+use Rattle.layout.proofs.ActiveNames.{names_from}
 use Rattle.channels.proofs.channels.active_names.Given as goal
 
 abbrev pub invariant-loop-i : goal.invariant-loop-i

@@ -5,8 +5,7 @@ use mathlib.Core.Path.{◌≡◌, refl, sym, ap, ◌∙◌}
 use mathlib.Core.Bool.{true, false}
 use native.Mathlib.Nat.{pow-suc}
 use native.Mathlib.Omega.{arith}
-use borrow.Author.Rules.{rules}
-use borrow.Author.Tests.{ne_eqb, not-true, not-false}
+use borrow.Author.Tests.{ne_eqb}
 use Rattle.layout.specs.Name.{letter, padded, valid_name}
 use Rattle.channels.proofs.name.is_name.Invariants.{Left}
 use Rattle.channels.proofs.name.is_name.Goals as goal

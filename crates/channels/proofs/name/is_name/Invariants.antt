@@ -1,11 +1,6 @@
-use Prim.Native.Nat.{ℕ, zero, suc, ◌<◌, ◌/◌, ◌%◌, ◌^◌}
-use mathlib.Core.Path.{◌≡◌, refl, sym, ap, ◌∙◌}
-use mathlib.Core.Bool.{true, false}
-use native.Mathlib.Nat.{pow-suc}
-use native.Mathlib.Omega.{arith}
-use borrow.Author.Rules.{rules}
-use borrow.Author.Tests.{ne_eqb, not-true, not-false}
-use Rattle.layout.specs.Name.{letter, padded, valid_name}
+use Prim.Native.Nat.{ℕ, ◌<◌, ◌/◌, ◌^◌}
+use mathlib.Core.Path.{◌≡◌}
+use Rattle.layout.specs.Name.{padded}
 use Rattle.channels.proofs.name.is_name.Given as goal
 
 pub record Left (b rest : ℕ) : Type 0 where

@@ -1,11 +1,9 @@
 -- What is passed and the place in what is left make the place in the whole.
-use Prim.Native.Nat.{ℕ, ◌≤◌, ◌-◌, ◌+◌, min}
-use mathlib.Core.Path.{◌≡◌, ap, ◌∙◌}
+use Prim.Native.Nat.{ℕ}
+use mathlib.Core.Path.{ap, ◌∙◌}
 use native.Mathlib.Nat.{zero-add}
 use native.Mathlib.Omega.{arith}
-use borrow.Author.Rules.{rules}
 use lib.ListN.{length, take}
-use lib.Seq.{slice}
 use Rattle.lists.specs.Lists.{index_of}
 use Rattle.lists.proofs.Loops.{slice-more, slice-done}
 use Rattle.lists.proofs.Takes.{take_min}

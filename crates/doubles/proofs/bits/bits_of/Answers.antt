@@ -1,5 +1,4 @@
 -- `doubles::bits::bits_of` meets its contract: only NaN differs from itself. Assumes nothing.
-use Rattle.std.proofs.Common.{rules}
 use Rattle.doubles.proofs.bits.Patterns.{same-no-nan, differs-pattern}
 use Rattle.doubles.proofs.bits.bits_of.Goals as goal
 

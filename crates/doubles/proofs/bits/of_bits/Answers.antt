@@ -1,5 +1,5 @@
 -- `doubles::bits::of_bits` meets its contract: a pattern above the infinity's, the sign taken off, is NaN's. Assumes nothing.
-use Rattle.std.proofs.Common.{sym, ◌∙◌, rules}
+use Rattle.std.proofs.Common.{sym, ◌∙◌}
 use Rattle.doubles.proofs.bits.Patterns.{no_nan, above-nan, zero_by_zero}
 use Rattle.doubles.proofs.bits.of_bits.Goals as goal
 

@@ -1,7 +1,7 @@
 -- `doubles::power::floor_log2` meets its contract: each need is a fact of `proofs/Logarithms.antt`. Assumes nothing.
 use Rattle.std.proofs.Common.{not, T, sym, subst, lt_of_lt_of_le, lt_of_le_of_lt, lit<, lit≤}
 use lib.Count.{leading_le}
-use lib.Ieee.{Float, binary64, fits, is_nan}
+use lib.Ieee.{is_nan}
 use lib.Ieee.Compare.{differs_from_itself}
 use Rattle.doubles.proofs.Floors.{yes, no}
 use Rattle.doubles.proofs.Logarithms.{plain_bits, by_digits, by_field, Is, no_nan, field-small, log-nan, log-zero, log-top, log-subnormal, log-normal}

@@ -1,5 +1,5 @@
 -- `doubles::power::pow2_i32` meets its contract: an `i32` is the same number as an `i64`. Assumes nothing.
-use Rattle.std.proofs.Common.{◌≡◌, ℤ, sym, ap, ◌∙◌, subst, lt_of_lt_of_le, lit≤, w32, w64, SFits, to_z, of_z, rules}
+use Rattle.std.proofs.Common.{◌≡◌, ℤ, sym, ap, ◌∙◌, subst, lt_of_lt_of_le, lit≤, w32, w64, SFits, to_z, of_z}
 use lib.Ieee.{binary64}
 use mir.ValLaws.{to_z-of_z}
 use Rattle.doubles.specs.Power.{pow2_of}

@@ -1,6 +1,6 @@
-use Rattle.std.proofs.Common.{◌+◌, ◌-◌, ◌*◌, ◌/◌, ◌^◌, ◌≤◌, zero-le, arith, lit<}
+use Rattle.std.proofs.Common.{◌-◌, ◌*◌, ◌/◌, ◌^◌, zero-le, arith, lit<}
 use lib.Bits.{mask_lt}
-use Rattle.doubles.proofs.root.DigitLoop.{So, so-start, so-room, so-next, so-zeros, so-half, so-whole}
+use Rattle.doubles.proofs.root.DigitLoop.{so-start, so-room, so-next, so-zeros, so-half, so-whole}
 use Rattle.doubles.proofs.root.digits.Goals as goal
 
 pub loop-i-init : goal.loop-i-init
@@ -8,10 +8,10 @@ loop-i-init c = (zero-le, so-start c.args.m c.requires)
 
 pub step-a-requires : goal.step-a-requires
 step-a-requires c = record {
-    q_bound = so-room _ _ _ _ c.loop-i.invariant.1 (omega arith);
-    r_bound = c.loop-i.invariant.1.rest;
-    d_bound = mask_lt (c.args.m / 2 ^ (52 - 2 * c.loop-i.i)) 2;
-    }
+  q_bound = so-room _ _ _ _ c.loop-i.invariant.1 (omega arith);
+  r_bound = c.loop-i.invariant.1.rest;
+  d_bound = mask_lt (c.args.m / 2 ^ (52 - 2 * c.loop-i.i)) 2;
+}
 
 pub loop-i-preserved : goal.loop-i-preserved
 loop-i-preserved c = (omega arith, so-next c.args.m c.loop-i.i _ _ _ _ (omega arith) c.loop-i.invariant.1 c.step-a.ensures)
@@ -21,10 +21,10 @@ loop-j-init c = (zero-le, so-half c.args.m c.loop-i.i _ _ (omega arith) c.loop-i
 
 pub step-a-requires-in-loop-j : goal.step-a-requires-in-loop-j
 step-a-requires-in-loop-j c = record {
-    q_bound = so-room _ _ _ _ c.loop-j.invariant.1 (omega arith);
-    r_bound = c.loop-j.invariant.1.rest;
-    d_bound = lit< tt;
-    }
+  q_bound = so-room _ _ _ _ c.loop-j.invariant.1 (omega arith);
+  r_bound = c.loop-j.invariant.1.rest;
+  d_bound = lit< tt;
+}
 
 pub loop-j-preserved : goal.loop-j-preserved
 loop-j-preserved c = (omega arith, so-zeros c.args.m c.loop-j.j _ _ _ _ c.loop-j.invariant.1 c.step-a-in-loop-j.ensures)

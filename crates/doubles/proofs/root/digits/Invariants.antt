@@ -1,6 +1,5 @@
-use Rattle.std.proofs.Common.{◌+◌, ◌-◌, ◌*◌, ◌/◌, ◌^◌, ◌≤◌, zero-le, arith, lit<}
-use lib.Bits.{mask_lt}
-use Rattle.doubles.proofs.root.DigitLoop.{So, so-start, so-room, so-next, so-zeros, so-half, so-whole}
+use Rattle.std.proofs.Common.{◌+◌, ◌-◌, ◌*◌, ◌/◌, ◌^◌, ◌≤◌}
+use Rattle.doubles.proofs.root.DigitLoop.{So}
 use Rattle.doubles.proofs.root.digits.Given as goal
 
 abbrev pub invariant-loop-i : goal.invariant-loop-i

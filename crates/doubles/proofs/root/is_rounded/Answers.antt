@@ -1,6 +1,6 @@
 -- `doubles::root::is_rounded` meets its contract: each need is a fact of `proofs/root/Tested.antt`. Assumes nothing.
-use Rattle.std.proofs.Common.{T, sym, subst, rules}
-use lib.Ieee.{binary64, fits, of_bits, to_bits}
+use Rattle.std.proofs.Common.{T, sym, subst}
+use lib.Ieee.{binary64, of_bits, to_bits}
 use Rattle.doubles.proofs.Floors.{yes}
 use Rattle.doubles.proofs.root.Nearest.{shift-lt, root-asks}
 use Rattle.doubles.proofs.Squares.{over-no-nan}
@@ -20,8 +20,8 @@ pub is_root-requires : goal.is_root-requires
 is_root-requires c =
     let s = c.before.before in
     record {
-    m_bound = root-asks s.args.m s.args.e s.requires.m_low s.requires.m_bound s.requires.e_low s.requires.e_bound;
-    g_bound = digits53-lt (to_bits binary64 s.args.s);
+      m_bound = root-asks s.args.m s.args.e s.requires.m_low s.requires.m_bound s.requires.e_low s.requires.e_bound;
+      g_bound = digits53-lt (to_bits binary64 s.args.s);
     }
 
 pub returns-then-b-e : goal.returns-then-b-e

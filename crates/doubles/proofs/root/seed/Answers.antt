@@ -1,5 +1,5 @@
 -- `doubles::root::seed` meets its contract. Assumes nothing.
-use Rattle.std.proofs.Common.{ℕ, ◌-◌, ◌*◌, ◌/◌, ◌^◌, ◌<◌, arith, rules}
+use Rattle.std.proofs.Common.{ℕ, ◌-◌, ◌*◌, ◌/◌, ◌^◌, ◌<◌, arith}
 use Rattle.doubles.proofs.root.Tested.{no-nan-below}
 use Rattle.doubles.proofs.root.seed.Goals as goal
 

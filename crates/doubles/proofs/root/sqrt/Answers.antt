@@ -1,6 +1,6 @@
 -- `doubles::sqrt` meets its contract: each need is a fact of `proofs/Squares.antt`. Assumes nothing.
 use Rattle.std.proofs.Common.{false, not, T, sym, ◌∙◌, subst, T_not}
-use lib.Ieee.{Float, inf, binary64, fits, lt, of_bits}
+use lib.Ieee.{Float, inf, binary64, lt, of_bits}
 use lib.Ieee.Scale.{finite}
 use Rattle.doubles.specs.Root.{NearRoot, square_units}
 use Rattle.doubles.proofs.Bound.{mag-pos}
@@ -15,9 +15,9 @@ vain x n r p t = absurd (T_not (lt zero_f x) n p)
 pub sqrt_positive-requires : goal.sqrt_positive-requires
 unfolding of_bits
 sqrt_positive-requires c = record {
-    positive = (yes c.if-x.true);
-    x_finite = (under-inf c.args.x (yes c.if-x.true) (subst (λ (z : Float). T (lt c.args.x z)) inf-is (yes c.if-x-2.true)));
-    }
+  positive = (yes c.if-x.true);
+  x_finite = (under-inf c.args.x (yes c.if-x.true) (subst (λ (z : Float). T (lt c.args.x z)) inf-is (yes c.if-x-2.true)));
+}
 
 pub returns-then-x-2 : goal.returns-then-x-2
 unfolding of_bits
@@ -26,8 +26,8 @@ returns-then-x-2 c =
     let p = is_plain c.args.x o (under-inf c.args.x (yes c.if-x.true) (subst (λ (z : Float). T (lt c.args.x z)) inf-is (yes c.if-x-2.true))) in
     let n = c.sqrt_positive.ensures in
     record {
-    value = near-sqrt c.args.x c.sqrt_positive.result (subst T (sym c.well_formed.0.1) tt) p (mag-pos binary64 c.args.x (subst T (sym c.well_formed.0.1) tt) p o) n;
-    nearest = λ q t. n;
+      value = near-sqrt c.args.x c.sqrt_positive.result (subst T (sym c.well_formed.0.1) tt) p (mag-pos binary64 c.args.x (subst T (sym c.well_formed.0.1) tt) p o) n;
+      nearest = λ q t. n;
     }
 
 pub returns-else-x-2 : goal.returns-else-x-2
@@ -35,20 +35,20 @@ unfolding of_bits
 returns-else-x-2 c =
     let h : T (not (lt c.args.x (inf false))) = subst (λ (z : Float). T (not (lt c.args.x z))) inf-is (no c.if-x-2.false) in
     record {
-    value = at-inf c.args.x (yes c.if-x.true) h;
-    nearest = λ q t. absurd (not-under-inf c.args.x t h);
+      value = at-inf c.args.x (yes c.if-x.true) h;
+      nearest = λ q t. absurd (not-under-inf c.args.x t h);
     }
 
 pub returns-then-x-3 : goal.returns-then-x-3
 unfolding of_bits
 returns-then-x-3 c = record {
-    value = at_zero c.args.x (yes c.if-x-3.true);
-    nearest = vain c.args.x (no c.if-x.false) c.args.x;
-    }
+  value = at_zero c.args.x (yes c.if-x-3.true);
+  nearest = vain c.args.x (no c.if-x.false) c.args.x;
+}
 
 pub returns-else-x-3 : goal.returns-else-x-3
 unfolding of_bits
 returns-else-x-3 c = record {
-    value = nan_is ∙ at-minus c.args.x (no c.if-x.false) (no c.if-x-3.false);
-    nearest = vain c.args.x (no c.if-x.false) _;
-    }
+  value = nan_is ∙ at-minus c.args.x (no c.if-x.false) (no c.if-x-3.false);
+  nearest = vain c.args.x (no c.if-x.false) _;
+}

@@ -39,19 +39,19 @@ guess-s-requires c = (form c.before).0
 pub is_rounded-requires : goal.is_rounded-requires
 is_rounded-requires c =
     let h = (high c.before).0 in record {
-    m_low = h.0;
-    m_bound = h.1.0;
-    e_low = h.1.1.0;
-    e_bound = h.1.1.1;
+      m_low = h.0;
+      m_bound = h.1.0;
+      e_low = h.1.1.0;
+      e_bound = h.1.1.1;
     }
 
 pub rounded-requires : goal.rounded-requires
 rounded-requires c =
     let h = (high c.before.before.before).0 in record {
-    m_low = h.0;
-    m_bound = h.1.0;
-    e_low = h.1.1.0;
-    e_bound = h.1.1.1;
+      m_low = h.0;
+      m_bound = h.1.0;
+      e_low = h.1.1.0;
+      e_bound = h.1.1.1;
     }
 
 -- ---- a subnormal x
@@ -76,10 +76,10 @@ overflow_sub-n-else-e-gt0 c = (low c).1.2
 pub rounded-requires-else-e-gt0 : goal.rounded-requires-else-e-gt0
 rounded-requires-else-e-gt0 c =
     let h = (low c).1.3 in record {
-    m_low = h.0;
-    m_bound = h.1.0;
-    e_low = h.1.1.0;
-    e_bound = h.1.1.1;
+      m_low = h.0;
+      m_bound = h.1.0;
+      e_low = h.1.1.0;
+      e_bound = h.1.1.1;
     }
 
 -- ---- what it gives: the guess, the digits of a normal x and those of a subnormal one

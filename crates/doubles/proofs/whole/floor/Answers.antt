@@ -1,6 +1,6 @@
 -- `doubles::whole::floor` meets its contract: near zero, but not at it, by `floor_near`. Assumes nothing.
-use Rattle.std.proofs.Common.{true, false, ◌&&◌, T, pos, ◌∙◌, rules}
-use lib.Ieee.{Float, fin, lt, le, ne, neg, of_bits}
+use Rattle.std.proofs.Common.{true, false, ◌&&◌, pos, ◌∙◌}
+use lib.Ieee.{fin, lt, ne, neg, of_bits}
 use lib.Ieee.Fits.{and_l, and_r}
 use Rattle.doubles.proofs.Floors.{yes}
 use Rattle.doubles.proofs.NearestWhole.{lt-le, floor-same, differs-not}

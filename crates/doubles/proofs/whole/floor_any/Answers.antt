@@ -1,15 +1,15 @@
 -- `doubles::whole::floor_any` meets its contract. Each need is a fact of `proofs/Floors.antt`, once the constants' bit patterns are read. Assumes nothing.
 use Rattle.std.proofs.Common.{ℕ, ◌+◌, ◌^◌, ◌<◌, ◌≤◌, not, T, pos, sym, ap, ◌∙◌, subst, le_of_lt, arith}
-use lib.Ieee.{Float, binary64, fits, lt, neg, of_bits, of_int}
-use Rattle.doubles.proofs.Floors.{zero_f, B, yes, no, asks, whole-lt, casts, floor-above, turn, floor-below-more, floor-below-same, high, deep, neither}
+use lib.Ieee.{binary64, lt, neg, of_bits, of_int}
+use Rattle.doubles.proofs.Floors.{yes, no, asks, whole-lt, casts, floor-above, turn, floor-below-more, floor-below-same, high, deep, neither}
 use Rattle.doubles.proofs.whole.floor_any.Goals as goal
 
 pub truncating_f64_to_u64-requires : goal.truncating_f64_to_u64-requires
 unfolding of_bits
 truncating_f64_to_u64-requires c =
     let h = asks c.args.x (yes c.if-x.true) (yes c.if-x-2.true) in record {
-    lower_bound = h.0;
-    upper_bound = h.1;
+      lower_bound = h.0;
+      upper_bound = h.1;
     }
 
 pub int_to_float-result : goal.int_to_float-result
@@ -26,8 +26,8 @@ pub truncating_f64_to_u64-n-requires : goal.truncating_f64_to_u64-n-requires
 unfolding of_bits
 truncating_f64_to_u64-n-requires c =
     let h = asks (neg c.args.x) (turn c.args.x (yes c.if-x-3.true) (yes c.if-x-4.true)).0 (turn c.args.x (yes c.if-x-3.true) (yes c.if-x-4.true)).1 in record {
-    lower_bound = h.0;
-    upper_bound = h.1;
+      lower_bound = h.0;
+      upper_bound = h.1;
     }
 
 pub int_to_float-t : goal.int_to_float-t

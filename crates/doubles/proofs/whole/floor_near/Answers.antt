@@ -10,8 +10,8 @@ returns-then-n-x c =
     let x = c.args.x in
     let h = yes c.if-n-x.true in
     record {
-    value = floor-less x h;
-    near = λ p q. near-less x p q h;
+      value = floor-less x h;
+      near = λ p q. near-less x p q h;
     }
 
 pub returns-else-n-x : goal.returns-else-n-x
@@ -20,6 +20,6 @@ returns-else-n-x c =
     let x = c.args.x in
     let h = no c.if-n-x.false in
     record {
-    value = floor-itself x h;
-    near = λ p q. near_same x p q h;
+      value = floor-itself x h;
+      near = λ p q. near_same x p q h;
     }

@@ -1,10 +1,8 @@
 -- `field::columns::first_columns` meets its contract: after k turns the first k are found. Assumes nothing.
 use mathlib.Core.Path.{◌≡◌, refl}
-use Prim.Native.Nat.{◌-◌, ◌≤◌}
 use native.Mathlib.Omega.{arith}
 use borrow.Author.Rules.{rules}
-use lib.ListN.{length, length-set}
-use Rattle.field.specs.Steps.Columns.{Firsts}
+use lib.ListN.{length-set}
 use Rattle.field.proofs.SameColumns.{firsts-none, firsts_more}
 use Rattle.field.proofs.columns.first_columns.Goals as goal
 

@@ -1,10 +1,7 @@
-use mathlib.Core.Path.{◌≡◌, refl}
+use mathlib.Core.Path.{◌≡◌}
 use Prim.Native.Nat.{◌-◌, ◌≤◌}
-use native.Mathlib.Omega.{arith}
-use borrow.Author.Rules.{rules}
-use lib.ListN.{length, length-set}
+use lib.ListN.{length}
 use Rattle.field.specs.Steps.Columns.{Firsts}
-use Rattle.field.proofs.SameColumns.{firsts-none, firsts_more}
 use Rattle.field.proofs.columns.first_columns.Given as goal
 
 abbrev pub invariant-loop-k : goal.invariant-loop-k

@@ -1,10 +1,8 @@
 -- `field::columns::first_same` meets its contract. The invariant: the first one of the channels left is the first one of all. Assumes nothing.
-use mathlib.Core.Path.{◌≡◌, refl, sym, ◌∙◌}
-use Prim.Native.Nat.{◌-◌, ◌≤◌}
+use mathlib.Core.Path.{refl, sym, ◌∙◌}
 use native.Mathlib.Nat.{sub-zero}
 use native.Mathlib.Omega.{arith}
 use borrow.Author.Rules.{rules}
-use Rattle.field.specs.Steps.Columns.{first_from, first_same}
 use Rattle.field.proofs.SameColumns.{first_done, first_more}
 use Rattle.field.proofs.columns.first_same.Goals as goal
 

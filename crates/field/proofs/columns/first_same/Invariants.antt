@@ -1,10 +1,6 @@
-use mathlib.Core.Path.{◌≡◌, refl, sym, ◌∙◌}
+use mathlib.Core.Path.{◌≡◌}
 use Prim.Native.Nat.{◌-◌, ◌≤◌}
-use native.Mathlib.Nat.{sub-zero}
-use native.Mathlib.Omega.{arith}
-use borrow.Author.Rules.{rules}
 use Rattle.field.specs.Steps.Columns.{first_from, first_same}
-use Rattle.field.proofs.SameColumns.{first_done, first_more}
 use Rattle.field.proofs.columns.first_same.Given as goal
 
 abbrev pub invariant-loop-j : goal.invariant-loop-j

@@ -1,5 +1,4 @@
 -- `field::knots::step` meets its contract. Assumes nothing.
-use borrow.Author.Rules.{rules}
 use native.Mathlib.Omega.{arith}
 use Rattle.extent.proofs.Casts.{casts}
 use Rattle.field.proofs.knots.step.Goals as goal

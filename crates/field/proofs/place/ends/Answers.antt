@@ -1,5 +1,4 @@
 -- `field::place::ends` meets its contract: one end response after the other. Assumes nothing.
-use borrow.Author.Rules.{rules}
 use Rattle.field.proofs.place.ends.Goals as goal
 
 pub returns : goal.returns

@@ -1,5 +1,5 @@
 -- `field::place::fill` meets its contract. Assumes nothing.
-use mathlib.Core.Path.{◌≡◌, sym, ap, ◌∙◌}
+use mathlib.Core.Path.{sym, ap, ◌∙◌}
 use borrow.Author.Rules.{rules}
 use lib.ListN.{length, length-map}
 use Rattle.lists.proofs.Loops.{long}

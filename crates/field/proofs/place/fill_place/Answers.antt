@@ -20,8 +20,8 @@ returns-then-first_no-store c =
     let key = a.key.now in
     let no = refused c.first_no.result (first_no (layout_questions (layout_in key))) (length a.store.now) a.p c.first_no.ensures c.if-first_no-store.true in
     record {
-    value = sym no;
-    store_after = sym (ap (λ (b : Bool). cond b (filled (room_in key) a.p a.store.now) a.store.now) no);
+      value = sym no;
+      store_after = sym (ap (λ (b : Bool). cond b (filled (room_in key) a.p a.store.now) a.store.now) no);
     }
 
 pub fill-requires : goal.fill-requires
@@ -41,8 +41,8 @@ returns c =
     let key = a.key.now in
     let yes = granted c.first_no.result (first_no (layout_questions (layout_in key))) (length a.store.now) a.p c.first_no.ensures c.if-first_no-store.false in
     record {
-    value = sym yes;
-    store_after = c.fill.ensures
+      value = sym yes;
+      store_after = c.fill.ensures
           ∙ ap (λ (l : Layout). filled (room_of l) a.p a.store.now) c.unpack.ensures
           ∙ sym (ap (λ (b : Bool). cond b (filled (room_in key) a.p a.store.now) a.store.now) yes);
     }

@@ -1,12 +1,10 @@
 -- `field::place::fill_rows` meets its contract: the rows written are those of `filled_from`, with one layer and with more. Assumes nothing.
-use mathlib.Core.Path.{◌≡◌, ap, ◌∙◌}
+use mathlib.Core.Path.{ap, ◌∙◌}
 use native.Mathlib.Omega.{arith}
 use borrow.Author.Rules.{rules}
 use lib.Ieee.{Float}
 use mathlib.Core.List.{List}
-use lib.ListN.{length}
 use Rattle.lists.proofs.Loops.{long}
-use Rattle.layout.specs.Topology.{topology_of}
 use Rattle.layout.proofs.TopologyFlat.{topology-length}
 use Rattle.field.specs.Steps.Filling.{filled_z}
 use Rattle.field.proofs.PlaceRows.{filled-flat, filled-deep}

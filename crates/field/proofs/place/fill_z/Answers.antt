@@ -1,5 +1,4 @@
 -- `field::place::fill_z` meets its contract: what is written comes from the responses of the layout. Assumes nothing.
-use borrow.Author.Rules.{rules}
 use Rattle.field.proofs.place.fill_z.Goals as goal
 
 pub returns : goal.returns

@@ -1,18 +1,17 @@
 -- `field::place::responses_x` meets its contract: the lists are those of `PlaceResponses`. Assumes nothing.
-use mathlib.Core.Path.{◌≡◌, sym, ap, ◌∙◌}
+use mathlib.Core.Path.{ap, ◌∙◌}
 use native.Mathlib.Omega.{arith}
 use borrow.Author.Rules.{rules}
-use lib.ListN.{length, length-map}
+use lib.ListN.{length}
 use Rattle.lists.proofs.Loops.{long}
-use Rattle.layout.specs.Topology.{anchor_x}
-use Rattle.field.proofs.PlaceResponses.{asked-x, left-x, none-length, anchor-starts-length}
+use Rattle.field.proofs.PlaceResponses.{asked-x, left-x, none-length}
 use Rattle.field.proofs.place.responses_x.Goals as goal
 
 pub respond-requires : goal.respond-requires
 respond-requires c =
     record {
-    in_bounds = omega (arith, ap length c.requires.2 ∙ none-length);
-    grouped = asked-x c.args.l (search (rules, long)) (search (rules, long)) (search (rules, long)) c.requires.0 c.args.at.now c.requires.1 c.anchor_xs.new.out c.anchor_starts.new.out c.row_total.result c.anchor_xs.ensures c.anchor_starts.ensures c.row_total.ensures;
+      in_bounds = omega (arith, ap length c.requires.2 ∙ none-length);
+      grouped = asked-x c.args.l (search (rules, long)) (search (rules, long)) (search (rules, long)) c.requires.0 c.args.at.now c.requires.1 c.anchor_xs.new.out c.anchor_starts.new.out c.row_total.result c.anchor_xs.ensures c.anchor_starts.ensures c.row_total.ensures;
     }
 
 pub returns : goal.returns

@@ -1,5 +1,5 @@
 -- `field::place::responses_y` meets its contract: the lists are those of `PlaceResponses`. Assumes nothing.
-use mathlib.Core.Path.{◌≡◌, sym, ap, ◌∙◌}
+use mathlib.Core.Path.{sym, ap, ◌∙◌}
 use native.Mathlib.Omega.{arith}
 use borrow.Author.Rules.{rules}
 use lib.ListN.{length, length-map}
@@ -11,8 +11,8 @@ use Rattle.field.proofs.place.responses_y.Goals as goal
 pub respond-requires : goal.respond-requires
 respond-requires c =
     record {
-    in_bounds = omega (arith, ap length c.requires.2 ∙ none-length);
-    grouped = asked-y c.args.l (search (rules, long)) (search (rules, long)) (search (rules, long)) c.requires.0 c.args.at.now c.requires.1 c.row_ys.new.out c.row_starts.new.out c.anchor_starts.new.out c.row_ys.ensures c.row_starts.ensures c.anchor_starts.ensures;
+      in_bounds = omega (arith, ap length c.requires.2 ∙ none-length);
+      grouped = asked-y c.args.l (search (rules, long)) (search (rules, long)) (search (rules, long)) c.requires.0 c.args.at.now c.requires.1 c.row_ys.new.out c.row_starts.new.out c.anchor_starts.new.out c.row_ys.ensures c.row_starts.ensures c.anchor_starts.ensures;
     }
 
 pub returns : goal.returns

@@ -1,5 +1,5 @@
 -- `field::place::responses_z` meets its contract: the lists are those of `PlaceResponses`. Assumes nothing.
-use mathlib.Core.Path.{◌≡◌, sym, ap, ◌∙◌}
+use mathlib.Core.Path.{sym, ap, ◌∙◌}
 use borrow.Author.Rules.{rules}
 use lib.ListN.{length, length-map}
 use Rattle.lists.proofs.Loops.{long}
@@ -10,8 +10,8 @@ use Rattle.field.proofs.place.responses_z.Goals as goal
 pub respond_z-requires : goal.respond_z-requires
 respond_z-requires c =
     record {
-    in_bounds = room-z c.args.l (search (rules, long)) (search (rules, long)) (search (rules, long)) c.requires.0 c.args.at.now c.requires.1 c.layer_zs.new.out c.layer_starts.new.out c.layer_zs.ensures c.layer_starts.ensures c.args.out.now c.requires.2;
-    by_index = asked-z c.args.l (search (rules, long)) (search (rules, long)) (search (rules, long)) c.requires.0 c.args.at.now c.requires.1 c.layer_zs.new.out c.layer_starts.new.out c.layer_zs.ensures c.layer_starts.ensures;
+      in_bounds = room-z c.args.l (search (rules, long)) (search (rules, long)) (search (rules, long)) c.requires.0 c.args.at.now c.requires.1 c.layer_zs.new.out c.layer_starts.new.out c.layer_zs.ensures c.layer_starts.ensures c.args.out.now c.requires.2;
+      by_index = asked-z c.args.l (search (rules, long)) (search (rules, long)) (search (rules, long)) c.requires.0 c.args.at.now c.requires.1 c.layer_zs.new.out c.layer_starts.new.out c.layer_zs.ensures c.layer_starts.ensures;
     }
 
 pub returns : goal.returns

@@ -1,5 +1,4 @@
 -- `field::place::write_xy` meets its contract: the rows are those of `written-xy`. Assumes nothing.
-use borrow.Author.Rules.{rules}
 use Rattle.field.proofs.PlaceRows.{written-xy}
 use Rattle.field.proofs.place.write_xy.Goals as goal
 

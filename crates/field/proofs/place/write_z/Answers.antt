@@ -1,5 +1,4 @@
 -- `field::place::write_z` meets its contract: the rows are those of `written-z`. Assumes nothing.
-use borrow.Author.Rules.{rules}
 use Rattle.field.proofs.PlaceRows.{written-z}
 use Rattle.field.proofs.place.write_z.Goals as goal
 

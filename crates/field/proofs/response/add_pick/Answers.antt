@@ -1,7 +1,6 @@
 -- `field::response::add_pick` meets its contract: each arm knows its constructor. Assumes nothing.
 use mathlib.Core.Path.{sym, ap, ◌∙◌}
 use native.Mathlib.Omega.{arith}
-use borrow.Author.Rules.{rules}
 use lib.Ieee.{of_bits}
 use Rattle.field.specs.Steps.Flat.{pick_added, pick_end}
 use Rattle.field.proofs.response.Parts.{parted}

@@ -1,15 +1,15 @@
 -- `field::response::add_response` meets its contract. The invariant: the picks of the groups passed are added. Assumes nothing.
 use mathlib.Core.Path.{◌≡◌, refl, sym, ◌∙◌}
-use Prim.Native.Nat.{ℕ, ◌+◌, ◌-◌, ◌≤◌}
+use Prim.Native.Nat.{ℕ, ◌+◌}
 use native.Mathlib.Omega.{arith}
 use borrow.Author.Rules.{rules}
 use mathlib.Core.List.{List}
 use lib.Ieee.{Float}
-use lib.ListN.{length, get_or}
+use lib.ListN.{get_or}
 use lib.Seq.{slice}
 use Rattle.field.specs.declared.Pick.{Pick}
 use Rattle.field.specs.Responses.{pick_of}
-use Rattle.field.specs.Steps.Flat.{response_added, shifted, group_pick}
+use Rattle.field.specs.Steps.Flat.{shifted, group_pick}
 use Rattle.field.proofs.response.Runs.{response-none, response-more, group-within, group-first, group-last, group-parted}
 use Rattle.field.proofs.response.add_response.Goals as goal
 
@@ -23,8 +23,8 @@ neighbours-requires c =
     let g = c.loop-g.g in
     let h = c.loop-g-test.true in
     record {
-    part_in_bounds = (k.some g h, group-within a.at.now a.parts.now a.v.now a.groups.now a.count a.u c.requires.base_in_bounds.1 k g h);
-    ends_finite = (
+      part_in_bounds = (k.some g h, group-within a.at.now a.parts.now a.v.now a.groups.now a.count a.u c.requires.base_in_bounds.1 k g h);
+      ends_finite = (
         c.requires.base_in_bounds.1,
         group-first a.at.now a.parts.now a.v.now a.groups.now a.count a.u c.requires.base_in_bounds.1 k g h,
         group-last a.at.now a.parts.now a.v.now a.groups.now a.count a.u c.requires.base_in_bounds.1 k g h,

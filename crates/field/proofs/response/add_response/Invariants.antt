@@ -1,10 +1,7 @@
-use mathlib.Core.Path.{◌≡◌, refl, sym, ◌∙◌}
+use mathlib.Core.Path.{◌≡◌}
 use Prim.Native.Nat.{◌-◌, ◌≤◌}
-use native.Mathlib.Omega.{arith}
-use borrow.Author.Rules.{rules}
 use lib.ListN.{length}
-use Rattle.field.specs.Steps.Flat.{response_added, group_pick}
-use Rattle.field.proofs.response.Runs.{response-none, response-more, group-within, group-first, group-last, group-parted}
+use Rattle.field.specs.Steps.Flat.{response_added}
 use Rattle.field.proofs.response.add_response.Given as goal
 
 abbrev pub invariant-loop-g : goal.invariant-loop-g

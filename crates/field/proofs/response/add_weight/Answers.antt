@@ -1,11 +1,8 @@
 -- `field::response::add_weight` meets its contract. The invariant: the places left, added to what stands, make the whole. Assumes nothing.
-use mathlib.Core.Path.{◌≡◌, refl, sym, ◌∙◌}
-use Prim.Native.Nat.{◌-◌, ◌<◌}
+use mathlib.Core.Path.{refl, sym, ◌∙◌}
 use native.Mathlib.Omega.{arith}
 use borrow.Author.Rules.{rules}
-use lib.ListN.{length, length-set, get_or}
-use lib.Seq.{slice}
-use Rattle.field.specs.Steps.Flat.{added_at}
+use lib.ListN.{length-set}
 use Rattle.field.proofs.response.Slices.{slice-past, added_more, added_none}
 use Rattle.field.proofs.response.add_weight.Goals as goal
 

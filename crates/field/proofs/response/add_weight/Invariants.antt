@@ -1,11 +1,8 @@
-use mathlib.Core.Path.{◌≡◌, refl, sym, ◌∙◌}
-use Prim.Native.Nat.{◌-◌, ◌<◌}
-use native.Mathlib.Omega.{arith}
-use borrow.Author.Rules.{rules}
-use lib.ListN.{length, length-set, get_or}
+use mathlib.Core.Path.{◌≡◌}
+use Prim.Native.Nat.{◌-◌}
+use lib.ListN.{length}
 use lib.Seq.{slice}
 use Rattle.field.specs.Steps.Flat.{added_at}
-use Rattle.field.proofs.response.Slices.{slice-past, added_more, added_none}
 use Rattle.field.proofs.response.add_weight.Given as goal
 
 abbrev pub invariant-loop-i : goal.invariant-loop-i

@@ -1,12 +1,8 @@
 -- `field::response::first_from` meets its contract. The invariant: the places passed and those below u in what is left make the whole. Assumes nothing.
 use mathlib.Core.Path.{◌≡◌, refl, sym, ◌∙◌}
-use Prim.Native.Nat.{◌+◌, ◌-◌, ◌≤◌}
 use native.Mathlib.Nat.{add-zero}
 use native.Mathlib.Omega.{arith}
 use borrow.Author.Rules.{rules}
-use borrow.Author.Tests.{not-true, not-false}
-use lib.Seq.{slice}
-use Rattle.field.specs.Responses.{count_below}
 use Rattle.field.proofs.response.Slices.{slice-past, below_more, below-found}
 use Rattle.field.proofs.response.first_from.Goals as goal
 

@@ -1,12 +1,7 @@
-use mathlib.Core.Path.{◌≡◌, refl, sym, ◌∙◌}
+use mathlib.Core.Path.{◌≡◌}
 use Prim.Native.Nat.{◌+◌, ◌-◌, ◌≤◌}
-use native.Mathlib.Nat.{add-zero}
-use native.Mathlib.Omega.{arith}
-use borrow.Author.Rules.{rules}
-use borrow.Author.Tests.{not-true, not-false}
 use lib.Seq.{slice}
 use Rattle.field.specs.Responses.{count_below}
-use Rattle.field.proofs.response.Slices.{slice-past, below_more, below-found}
 use Rattle.field.proofs.response.first_from.Given as goal
 
 abbrev pub invariant-loop-i : goal.invariant-loop-i

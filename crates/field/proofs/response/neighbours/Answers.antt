@@ -2,7 +2,6 @@
 use mathlib.Core.Path.{◌≡◌, ◌∙◌}
 use Prim.Native.Nat.{ℕ, ◌+◌, ◌≤◌, ◌<◌}
 use native.Mathlib.Omega.{arith}
-use borrow.Author.Rules.{rules}
 use Rattle.field.proofs.response.Picks.{part-pick-first, part-pick-last, part-pick-pair, part-between}
 use Rattle.field.proofs.response.neighbours.Goals as goal
 

@@ -1,5 +1,4 @@
 -- `field::response::pair` meets its contract: the literals are the definition's numbers. Assumes nothing.
-use borrow.Author.Rules.{rules}
 use lib.Ieee.{of_bits, round, of_int}
 use Rattle.field.specs.Responses.{two_at}
 use Rattle.field.proofs.response.pair.Goals as goal

@@ -1,11 +1,8 @@
 -- `field::response::respond` meets its contract. The invariant: the responses at the samples passed are added. Assumes nothing.
 use mathlib.Core.Path.{◌≡◌, refl, sym, ◌∙◌}
-use Prim.Native.Nat.{◌-◌, ◌≤◌}
 use native.Mathlib.Omega.{arith}
 use borrow.Author.Rules.{rules}
-use lib.ListN.{length}
 use Rattle.field.specs.Knots.{X}
-use Rattle.field.specs.Steps.Flat.{responded}
 use Rattle.field.proofs.ResponseSamples.{sample-finite}
 use Rattle.field.proofs.response.Runs.{responded-none, responded-more}
 use Rattle.field.proofs.response.respond.Goals as goal
@@ -16,8 +13,8 @@ loop-s-init c = (search rules, sym (responded-none _ _ _ _ _ _), refl)
 pub add_response-requires : goal.add_response-requires
 add_response-requires c =
     record {
-    base_in_bounds = (omega (arith, c.loop-s-test.true, c.loop-s.invariant.2, c.requires.in_bounds), rw c.step.ensures (sample-finite X c.loop-s.s c.loop-s-test.true));
-    grouped = c.requires.grouped;
+      base_in_bounds = (omega (arith, c.loop-s-test.true, c.loop-s.invariant.2, c.requires.in_bounds), rw c.step.ensures (sample-finite X c.loop-s.s c.loop-s-test.true));
+      grouped = c.requires.grouped;
     }
 
 pub loop-s-preserved : goal.loop-s-preserved

@@ -1,12 +1,7 @@
-use mathlib.Core.Path.{◌≡◌, refl, sym, ◌∙◌}
+use mathlib.Core.Path.{◌≡◌}
 use Prim.Native.Nat.{◌-◌, ◌≤◌}
-use native.Mathlib.Omega.{arith}
-use borrow.Author.Rules.{rules}
 use lib.ListN.{length}
-use Rattle.field.specs.Knots.{X}
 use Rattle.field.specs.Steps.Flat.{responded}
-use Rattle.field.proofs.ResponseSamples.{sample-finite}
-use Rattle.field.proofs.response.Runs.{responded-none, responded-more}
 use Rattle.field.proofs.response.respond.Given as goal
 
 abbrev pub invariant-loop-s : goal.invariant-loop-s

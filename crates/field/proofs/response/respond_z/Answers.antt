@@ -1,11 +1,9 @@
 -- `field::response::respond_z` meets its contract. The invariant: the responses at the samples passed are added. Assumes nothing.
 use mathlib.Core.Path.{◌≡◌, refl, sym, ◌∙◌}
-use Prim.Native.Nat.{◌-◌, ◌≤◌}
+use Prim.Native.Nat.{◌-◌}
 use native.Mathlib.Omega.{arith}
 use borrow.Author.Rules.{rules}
-use lib.ListN.{length}
 use Rattle.field.specs.Knots.{Z, steps}
-use Rattle.field.specs.Steps.Flat.{responded_z}
 use Rattle.field.proofs.ResponseSamples.{sample-finite}
 use Rattle.field.proofs.response.Parts.{fewer}
 use Rattle.field.proofs.response.Picks.{layers-pick-end}
@@ -19,8 +17,8 @@ pub selected_layers-requires : goal.selected_layers-requires
 selected_layers-requires c =
     let z = c.requires.by_index.0 in
     record {
-    le_depth = (c.requires.in_bounds.1, c.requires.in_bounds.2);
-    ends_finite = (rw c.step.ensures (sample-finite Z c.loop-s.s c.loop-s-test.true), z 0 c.requires.in_bounds.1, z (c.args.depth - 1) (omega (arith, c.requires.in_bounds)));
+      le_depth = (c.requires.in_bounds.1, c.requires.in_bounds.2);
+      ends_finite = (rw c.step.ensures (sample-finite Z c.loop-s.s c.loop-s-test.true), z 0 c.requires.in_bounds.1, z (c.args.depth - 1) (omega (arith, c.requires.in_bounds)));
     }
 
 pub add_pick-requires : goal.add_pick-requires

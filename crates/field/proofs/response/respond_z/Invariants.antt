@@ -1,14 +1,7 @@
-use mathlib.Core.Path.{◌≡◌, refl, sym, ◌∙◌}
+use mathlib.Core.Path.{◌≡◌}
 use Prim.Native.Nat.{◌-◌, ◌≤◌}
-use native.Mathlib.Omega.{arith}
-use borrow.Author.Rules.{rules}
 use lib.ListN.{length}
-use Rattle.field.specs.Knots.{Z, steps}
 use Rattle.field.specs.Steps.Flat.{responded_z}
-use Rattle.field.proofs.ResponseSamples.{sample-finite}
-use Rattle.field.proofs.response.Parts.{fewer}
-use Rattle.field.proofs.response.Picks.{layers-pick-end}
-use Rattle.field.proofs.response.Runs.{responded-z-none, responded-z-more}
 use Rattle.field.proofs.response.respond_z.Given as goal
 
 abbrev pub invariant-loop-s : goal.invariant-loop-s

@@ -1,6 +1,5 @@
 -- `field::response::selected_layers` meets its contract: the tests are those of the definition. Assumes nothing.
 use mathlib.Core.Path.{sym, ◌∙◌}
-use borrow.Author.Rules.{rules}
 use lib.Ieee.{of_bits, round, of_int}
 use Rattle.field.proofs.response.Picks.{layers-others, layers-two}
 use Rattle.field.proofs.response.selected_layers.Goals as goal

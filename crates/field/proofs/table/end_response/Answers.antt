@@ -1,11 +1,10 @@
 -- `field::table::end_response` meets its contract: after k turns the first k numbers are written. Assumes nothing.
 use mathlib.Core.Path.{◌≡◌, refl, sym}
-use Prim.Native.Nat.{ℕ, ◌+◌, ◌-◌, ◌*◌, ◌≤◌}
+use Prim.Native.Nat.{ℕ, ◌+◌, ◌*◌}
 use native.Mathlib.Omega.{arith}
 use borrow.Author.Rules.{rules}
 use lib.Ieee.{nan}
-use lib.ListN.{length, get_or, length-set}
-use Rattle.field.specs.Patched.{patched, within}
+use lib.ListN.{get_or, length-set}
 use Rattle.field.proofs.Patching.{write-none, write-more}
 use Rattle.field.proofs.table.end_response.Goals as goal
 

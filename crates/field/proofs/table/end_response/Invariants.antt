@@ -1,11 +1,8 @@
-use mathlib.Core.Path.{◌≡◌, refl, sym}
+use mathlib.Core.Path.{◌≡◌}
 use Prim.Native.Nat.{ℕ, ◌+◌, ◌-◌, ◌*◌, ◌≤◌}
-use native.Mathlib.Omega.{arith}
-use borrow.Author.Rules.{rules}
 use lib.Ieee.{nan}
-use lib.ListN.{length, get_or, length-set}
+use lib.ListN.{length, get_or}
 use Rattle.field.specs.Patched.{patched, within}
-use Rattle.field.proofs.Patching.{write-none, write-more}
 use Rattle.field.proofs.table.end_response.Given as goal
 
 abbrev pub invariant-loop-k : goal.invariant-loop-k

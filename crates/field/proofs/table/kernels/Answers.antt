@@ -1,9 +1,9 @@
 -- `field::table::kernels` meets its contract: after s turns the kernel stands at the first s samples. Assumes nothing.
 use mathlib.Core.Path.{◌≡◌, refl, sym, ap, ◌∙◌}
-use Prim.Native.Nat.{ℕ, ◌-◌, ◌≤◌, zero-le}
+use Prim.Native.Nat.{ℕ, ◌-◌, zero-le}
 use native.Mathlib.Omega.{arith}
 use borrow.Author.Rules.{rules}
-use lib.ListN.{length, length-set}
+use lib.ListN.{length-set}
 use Rattle.extent.specs.Kernel.{kernel_of}
 use Rattle.field.specs.Knots.{steps}
 use Rattle.field.specs.Patched.{patched, within}

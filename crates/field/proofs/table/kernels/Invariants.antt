@@ -1,12 +1,9 @@
-use mathlib.Core.Path.{◌≡◌, refl, sym, ap, ◌∙◌}
-use Prim.Native.Nat.{ℕ, ◌-◌, ◌≤◌, zero-le}
-use native.Mathlib.Omega.{arith}
-use borrow.Author.Rules.{rules}
-use lib.ListN.{length, length-set}
+use mathlib.Core.Path.{◌≡◌}
+use Prim.Native.Nat.{ℕ, ◌-◌, ◌≤◌}
+use lib.ListN.{length}
 use Rattle.extent.specs.Kernel.{kernel_of}
 use Rattle.field.specs.Knots.{steps}
 use Rattle.field.specs.Patched.{patched, within}
-use Rattle.field.proofs.Patching.{within_none, within_more}
 use Rattle.field.proofs.table.kernels.Given as goal
 
 abbrev pub invariant-loop-s : goal.invariant-loop-s

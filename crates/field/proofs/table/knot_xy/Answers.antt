@@ -1,7 +1,6 @@
 -- `field::table::knot_xy` meets its contract: each row lies in the store, and the two rows are those of `knot-XY`. Assumes nothing.
-use Prim.Native.Nat.{◌+◌, ◌*◌, ◌≤◌}
+use Prim.Native.Nat.{◌+◌}
 use native.Mathlib.Omega.{arith}
-use borrow.Author.Rules.{rules}
 use lib.Ieee as Ieee
 use lib.Ieee.{binary64}
 use lib.ListN.{replicate}
@@ -22,7 +21,7 @@ pub overflow_add-base : goal.overflow_add-base
 overflow_add-base c = omega (arith, row_room c.args.n c.args.knot 700 (omega arith))
 
 pub sampled_response-requires : goal.sampled_response-requires
-sampled_response-requires c =  record { n_in_bounds = omega (arith, row_room c.args.n c.args.knot 700 (omega arith)); firsts = c.requires.firsts }
+sampled_response-requires c = record { n_in_bounds = omega (arith, row_room c.args.n c.args.knot 700 (omega arith)); firsts = c.requires.firsts }
 
 pub overflow_mul-knot-2 : goal.overflow_mul-knot-2
 overflow_mul-knot-2 c = omega (arith, row_room c.args.n (700 + c.args.knot) 1400 (omega arith))
@@ -31,4 +30,4 @@ pub overflow_add-base-2 : goal.overflow_add-base-2
 overflow_add-base-2 c = omega (arith, row_room c.args.n (700 + c.args.knot) 1400 (omega arith))
 
 pub sampled_response-requires-2 : goal.sampled_response-requires-2
-sampled_response-requires-2 c =  record { n_in_bounds = omega (arith, row_room c.args.n (700 + c.args.knot) 1400 (omega arith)); firsts = c.requires.firsts_of_y }
+sampled_response-requires-2 c = record { n_in_bounds = omega (arith, row_room c.args.n (700 + c.args.knot) 1400 (omega arith)); firsts = c.requires.firsts_of_y }

@@ -1,7 +1,6 @@
 -- `field::table::knot_z` meets its contract: the row lies in the store, and it is that of `knot-Z`. Assumes nothing.
-use Prim.Native.Nat.{◌+◌, ◌*◌, ◌≤◌}
+use Prim.Native.Nat.{◌+◌}
 use native.Mathlib.Omega.{arith}
-use borrow.Author.Rules.{rules}
 use lib.Ieee as Ieee
 use lib.Ieee.{binary64}
 use lib.ListN.{replicate}
@@ -22,4 +21,4 @@ pub overflow_add-base : goal.overflow_add-base
 overflow_add-base c = omega (arith, row_room c.args.n (1400 + c.args.knot) 1480 (omega arith))
 
 pub sampled_response-requires : goal.sampled_response-requires
-sampled_response-requires c =  record { n_in_bounds = omega (arith, row_room c.args.n (1400 + c.args.knot) 1480 (omega arith)); firsts = c.requires.firsts }
+sampled_response-requires c = record { n_in_bounds = omega (arith, row_room c.args.n (1400 + c.args.knot) 1480 (omega arith)); firsts = c.requires.firsts }

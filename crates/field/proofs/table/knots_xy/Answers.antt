@@ -1,9 +1,8 @@
 -- `field::table::knots_xy` meets its contract: after some knots their rows of X and of Y are written. Assumes nothing.
 use mathlib.Core.Path.{◌≡◌, refl, sym, ap, ◌∙◌}
-use Prim.Native.Nat.{ℕ, ◌-◌, ◌≤◌}
+use Prim.Native.Nat.{ℕ}
 use native.Mathlib.Omega.{arith}
 use borrow.Author.Rules.{rules}
-use lib.ListN.{length}
 use Rattle.field.specs.Patched.{patched}
 use Rattle.field.proofs.table.KnotRows.{table_xy, written_xy, written_xy-none, written_xy-more, written_xy-done}
 use Rattle.field.proofs.table.knots_xy.Goals as goal

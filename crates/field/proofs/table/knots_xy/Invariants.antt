@@ -1,10 +1,8 @@
-use mathlib.Core.Path.{◌≡◌, refl, sym, ap, ◌∙◌}
-use Prim.Native.Nat.{ℕ, ◌-◌, ◌≤◌}
-use native.Mathlib.Omega.{arith}
-use borrow.Author.Rules.{rules}
+use mathlib.Core.Path.{◌≡◌}
+use Prim.Native.Nat.{◌-◌, ◌≤◌}
 use lib.ListN.{length}
 use Rattle.field.specs.Patched.{patched}
-use Rattle.field.proofs.table.KnotRows.{table_xy, written_xy, written_xy-none, written_xy-more, written_xy-done}
+use Rattle.field.proofs.table.KnotRows.{table_xy, written_xy}
 use Rattle.field.proofs.table.knots_xy.Given as goal
 
 abbrev pub invariant-loop-knot : goal.invariant-loop-knot

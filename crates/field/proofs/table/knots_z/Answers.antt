@@ -1,9 +1,8 @@
 -- `field::table::knots_z` meets its contract: after some knots their rows of Z are written. Assumes nothing.
 use mathlib.Core.Path.{◌≡◌, refl, sym, ap, ◌∙◌}
-use Prim.Native.Nat.{ℕ, ◌-◌, ◌≤◌}
+use Prim.Native.Nat.{ℕ}
 use native.Mathlib.Omega.{arith}
 use borrow.Author.Rules.{rules}
-use lib.ListN.{length}
 use Rattle.field.specs.Patched.{patched}
 use Rattle.field.proofs.table.KnotRows.{table_z, written_z, written_z-none, written_z-more}
 use Rattle.field.proofs.table.knots_z.Goals as goal

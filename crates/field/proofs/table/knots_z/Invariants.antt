@@ -1,10 +1,8 @@
-use mathlib.Core.Path.{◌≡◌, refl, sym, ap, ◌∙◌}
-use Prim.Native.Nat.{ℕ, ◌-◌, ◌≤◌}
-use native.Mathlib.Omega.{arith}
-use borrow.Author.Rules.{rules}
+use mathlib.Core.Path.{◌≡◌}
+use Prim.Native.Nat.{◌-◌, ◌≤◌}
 use lib.ListN.{length}
 use Rattle.field.specs.Patched.{patched}
-use Rattle.field.proofs.table.KnotRows.{table_z, written_z, written_z-none, written_z-more}
+use Rattle.field.proofs.table.KnotRows.{table_z, written_z}
 use Rattle.field.proofs.table.knots_z.Given as goal
 
 abbrev pub invariant-loop-knot : goal.invariant-loop-knot

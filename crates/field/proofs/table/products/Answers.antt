@@ -1,14 +1,10 @@
 -- `field::table::products` meets its contract: after s turns the products of the first s samples that count stand in front. Assumes nothing.
 -- the kernel and the response at a sample
 use mathlib.Core.Path.{◌≡◌, refl}
-use mathlib.Core.List.{List}
-use mathlib.Core.Logic.{⊎_elim}
-use Prim.Native.Nat.{ℕ, ◌+◌, ◌-◌, ◌*◌, ◌≤◌}
 use native.Mathlib.Omega.{arith}
 use borrow.Author.Rules.{rules}
-use lib.Ieee.{Float, nan, of_bits}
-use lib.ListN.{length, get_or, take, length-set}
-use Rattle.field.specs.Steps.Sums.{products_of}
+use lib.Ieee.{of_bits}
+use lib.ListN.{length-set}
 use Rattle.field.proofs.SampledSums.{products-none, products-more, products-same}
 use Rattle.field.proofs.table.products.Invariants.{kernel, response}
 use Rattle.field.proofs.table.products.Goals as goal
@@ -24,8 +20,8 @@ loop-s-preserved c =
     let K = kernel a.kernels.now in
     let R = response a.responses.now a.k in
     elim c.if-kernel-product.branch [
-      then-kernel-product w ↦ (omega arith, rw w.m-is (omega arith), rw (w.y-is, w.m-is) (products-more K R c.loop-s.s c.loop-s.m c.loop-s.y (omega arith) c.loop-s.invariant.2 w.if-kernel-product.true), rw w.y-is (simp length-set (search rules)))
-    | else-kernel-product w ↦ (omega arith, rw w.m-is (omega arith), rw (w.y-is, w.m-is) (products-same K R c.loop-s.s c.loop-s.m c.loop-s.y c.loop-s.invariant.2 w.if-kernel-product.false), rw w.y-is (search rules))
+      | then-kernel-product w ↦ (omega arith, rw w.m-is (omega arith), rw (w.y-is, w.m-is) (products-more K R c.loop-s.s c.loop-s.m c.loop-s.y (omega arith) c.loop-s.invariant.2 w.if-kernel-product.true), rw w.y-is (simp length-set (search rules)))
+      | else-kernel-product w ↦ (omega arith, rw w.m-is (omega arith), rw (w.y-is, w.m-is) (products-same K R c.loop-s.s c.loop-s.m c.loop-s.y c.loop-s.invariant.2 w.if-kernel-product.false), rw w.y-is (search rules))
     ]
 
 pub returns : goal.returns

@@ -1,13 +1,9 @@
-use mathlib.Core.Path.{◌≡◌, refl}
+use mathlib.Core.Path.{◌≡◌}
 use mathlib.Core.List.{List}
-use mathlib.Core.Logic.{⊎_elim}
 use Prim.Native.Nat.{ℕ, ◌+◌, ◌-◌, ◌*◌, ◌≤◌}
-use native.Mathlib.Omega.{arith}
-use borrow.Author.Rules.{rules}
-use lib.Ieee.{Float, nan, of_bits}
-use lib.ListN.{length, get_or, take, length-set}
+use lib.Ieee.{Float, nan}
+use lib.ListN.{length, get_or, take}
 use Rattle.field.specs.Steps.Sums.{products_of}
-use Rattle.field.proofs.SampledSums.{products-none, products-more, products-same}
 use Rattle.field.proofs.table.products.Given as goal
 
 abbrev pub kernel : List Float → ℕ → Float

@@ -1,6 +1,5 @@
 -- `field::table::sampled` meets its contract, by the sum of the powers of the products that count. Assumes nothing.
 use Prim.Native.Nat.{ℕ, ◌+◌, ◌*◌}
-use borrow.Author.Rules.{rules}
 use lib.Ieee.{nan}
 use lib.ListN.{get_or}
 use Rattle.approximations.specs.Powers.{power_of}

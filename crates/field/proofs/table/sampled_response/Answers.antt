@@ -1,15 +1,11 @@
 -- `field::table::sampled_response` meets its contract: after k turns the numbers of the first k channels are written. Assumes nothing.
 -- the number of channel k
 use mathlib.Core.Path.{◌≡◌, refl, sym}
-use mathlib.Core.List.{List}
-use mathlib.Core.Logic.{⊎_elim}
-use Prim.Native.Nat.{ℕ, ◌+◌, ◌-◌, ◌*◌, ◌≤◌}
+use Prim.Native.Nat.{ℕ}
 use native.Mathlib.Omega.{arith}
 use borrow.Author.Rules.{rules}
-use lib.Ieee.{Float, nan}
-use lib.ListN.{length, get_or, length-set}
-use Rattle.field.specs.Tables.{sampled_over}
-use Rattle.field.specs.Patched.{patched, within}
+use lib.Ieee.{nan}
+use lib.ListN.{get_or, length-set}
 use Rattle.field.proofs.Patching.{write-none, write-more, copy_more}
 use Rattle.field.proofs.SameColumns.{first-number}
 use Rattle.field.proofs.table.sampled_response.Invariants.{number}
@@ -26,10 +22,10 @@ loop-k-preserved c =
     let a = c.args in
     let g = number a.kernels.now a.responses.now a.samples a.exponent in
     elim c.if-j-k.branch [
-      then-j-k w ↦
-    let e = first-number a.responses.now a.samples a.n c.loop-k.k a.firsts.now (λ (s : ℕ). get_or a.kernels.now s nan) a.exponent c.type_inv.responses (search rules) (omega arith) w.if-j-k.true in
-    (omega arith, rw (w.store-is, c.loop-k.invariant.1) (copy_more a.from c.loop-k.k (get_or a.firsts.now c.loop-k.k 0) g a.store.now nan w.if-j-k.true (omega arith) e), rw w.store-is (simp length-set (search rules)))
-    | else-j-k w ↦ (omega arith, rw (w.store-is, w.sampled.ensures, c.loop-k.invariant.1) (write-more a.from c.loop-k.k g a.store.now), rw w.store-is (simp length-set (search rules)))
+      | then-j-k w ↦
+          let e = first-number a.responses.now a.samples a.n c.loop-k.k a.firsts.now (λ (s : ℕ). get_or a.kernels.now s nan) a.exponent c.type_inv.responses (search rules) (omega arith) w.if-j-k.true in
+          (omega arith, rw (w.store-is, c.loop-k.invariant.1) (copy_more a.from c.loop-k.k (get_or a.firsts.now c.loop-k.k 0) g a.store.now nan w.if-j-k.true (omega arith) e), rw w.store-is (simp length-set (search rules)))
+      | else-j-k w ↦ (omega arith, rw (w.store-is, w.sampled.ensures, c.loop-k.invariant.1) (write-more a.from c.loop-k.k g a.store.now), rw w.store-is (simp length-set (search rules)))
     ]
 
 pub returns : goal.returns

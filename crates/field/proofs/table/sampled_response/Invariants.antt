@@ -1,15 +1,10 @@
-use mathlib.Core.Path.{◌≡◌, refl, sym}
+use mathlib.Core.Path.{◌≡◌}
 use mathlib.Core.List.{List}
-use mathlib.Core.Logic.{⊎_elim}
 use Prim.Native.Nat.{ℕ, ◌+◌, ◌-◌, ◌*◌, ◌≤◌}
-use native.Mathlib.Omega.{arith}
-use borrow.Author.Rules.{rules}
 use lib.Ieee.{Float, nan}
-use lib.ListN.{length, get_or, length-set}
+use lib.ListN.{length, get_or}
 use Rattle.field.specs.Tables.{sampled_over}
 use Rattle.field.specs.Patched.{patched, within}
-use Rattle.field.proofs.Patching.{write-none, write-more, copy_more}
-use Rattle.field.proofs.SameColumns.{first-number}
 use Rattle.field.proofs.table.sampled_response.Given as goal
 
 abbrev pub number : List Float → List Float → ℕ → Float → ℕ → Float

@@ -1,13 +1,8 @@
 -- `field::table::sum_of` meets its contract: what is added and what is left make the whole. Assumes nothing.
-use mathlib.Core.Path.{◌≡◌, refl, sym, ◌∙◌}
-use Prim.Native.Nat.{◌-◌, ◌≤◌}
+use mathlib.Core.Path.{refl, sym, ◌∙◌}
 use native.Mathlib.Omega.{arith}
 use borrow.Author.Rules.{rules}
 use lib.Ieee.{nan, of_bits}
-use lib.ListN.{take}
-use lib.Seq.{slice}
-use Rattle.doubles.specs.Arithmetic.{zero64}
-use Rattle.field.specs.Steps.Sums.{sum_from}
 use Rattle.field.proofs.SampledSums.{sum_more, sum_done}
 use Rattle.field.proofs.table.sum_of.Goals as goal
 

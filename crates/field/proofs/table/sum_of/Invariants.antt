@@ -1,13 +1,9 @@
-use mathlib.Core.Path.{◌≡◌, refl, sym, ◌∙◌}
+use mathlib.Core.Path.{◌≡◌}
 use Prim.Native.Nat.{◌-◌, ◌≤◌}
-use native.Mathlib.Omega.{arith}
-use borrow.Author.Rules.{rules}
-use lib.Ieee.{nan, of_bits}
 use lib.ListN.{take}
 use lib.Seq.{slice}
 use Rattle.doubles.specs.Arithmetic.{zero64}
 use Rattle.field.specs.Steps.Sums.{sum_from}
-use Rattle.field.proofs.SampledSums.{sum_more, sum_done}
 use Rattle.field.proofs.table.sum_of.Given as goal
 
 abbrev pub invariant-loop-i : goal.invariant-loop-i

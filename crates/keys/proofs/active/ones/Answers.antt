@@ -1,10 +1,7 @@
 -- What is counted and what is left to count make the whole count.
-use Prim.Native.Nat.{◌≤◌, ◌+◌, ◌-◌}
 use mathlib.Core.Path.{◌≡◌}
-use mathlib.Core.Logic.{⊎_elim}
 use native.Mathlib.Omega.{arith}
-use borrow.Author.Rules.{rules}
-use Rattle.keys.proofs.ActiveKeys.{left, counted, passed, none_left}
+use Rattle.keys.proofs.ActiveKeys.{counted, passed, none_left}
 use Rattle.keys.proofs.active.ones.Goals as goal
 use Rattle.keys.proofs.active.ones.Goals.{then-key-i-eq1, else-key-i-eq1}
 
@@ -15,8 +12,8 @@ loop-i-preserved c =
     let e = counted a.key.now a.used v.i (omega arith) (omega arith) in
     let f = passed a.key.now a.used v.i (omega arith) (omega arith) in
     elim c.if-key-i-eq1.branch [
-      then-key-i-eq1 w ↦ omega (arith, e w.if-key-i-eq1.true)
-    | else-key-i-eq1 w ↦ omega (arith, f w.if-key-i-eq1.false)
+      | then-key-i-eq1 w ↦ omega (arith, e w.if-key-i-eq1.true)
+      | else-key-i-eq1 w ↦ omega (arith, f w.if-key-i-eq1.false)
     ]
 
 pub returns : goal.returns

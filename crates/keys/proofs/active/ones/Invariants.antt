@@ -1,9 +1,6 @@
 use Prim.Native.Nat.{◌≤◌, ◌+◌, ◌-◌}
 use mathlib.Core.Path.{◌≡◌}
-use mathlib.Core.Logic.{⊎_elim}
-use native.Mathlib.Omega.{arith}
-use borrow.Author.Rules.{rules}
-use Rattle.keys.proofs.ActiveKeys.{left, counted, passed, none_left}
+use Rattle.keys.proofs.ActiveKeys.{left}
 use Rattle.keys.proofs.active.ones.Given as goal
 
 abbrev pub invariant-loop-i : goal.invariant-loop-i

@@ -1,10 +1,9 @@
 -- The first i entries are 0.
-use Prim.Native.Nat.{◌-◌}
 use mathlib.Core.Path.{refl, sym}
 use native.Mathlib.Omega.{arith}
 use borrow.Author.Rules.{rules}
 use lib.ListN.{replicate, get_or-replicate}
-use Rattle.lists.proofs.Fill.{Filled, fill_none, fill_more, fill_done}
+use Rattle.lists.proofs.Fill.{fill_none, fill_more, fill_done}
 use Rattle.keys.proofs.packing.clear.Goals as goal
 
 pub loop-i-preserved : goal.loop-i-preserved

@@ -1,9 +1,6 @@
 use Prim.Native.Nat.{◌-◌}
-use mathlib.Core.Path.{refl, sym}
-use native.Mathlib.Omega.{arith}
-use borrow.Author.Rules.{rules}
-use lib.ListN.{replicate, get_or-replicate}
-use Rattle.lists.proofs.Fill.{Filled, fill_none, fill_more, fill_done}
+use lib.ListN.{replicate}
+use Rattle.lists.proofs.Fill.{Filled}
 use Rattle.keys.proofs.packing.clear.Given as goal
 
 abbrev pub invariant-loop-i : goal.invariant-loop-i

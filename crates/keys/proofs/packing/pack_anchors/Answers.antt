@@ -1,7 +1,6 @@
 -- The names and x of the first i anchors are written.
-use Prim.Native.Nat.{◌-◌, ◌≤◌}
+use Prim.Native.Nat.{◌≤◌}
 use mathlib.Core.Path.{◌≡◌, refl, sym, ◌∙◌}
-use mathlib.Core.List.{map}
 use native.Mathlib.Omega.{arith}
 use borrow.Author.Rules.{rules}
 use lib.ListN.{length, length-map, length-set, get_or-map}
@@ -9,7 +8,7 @@ use Rattle.lists.proofs.Loops.{long}
 use Rattle.layout.specs.Topology.{anchor_name}
 use Rattle.layout.specs.Steps.Starts.{no_anchor}
 use Rattle.keys.specs.Steps.{x_pattern}
-use Rattle.keys.proofs.KeyParts.{Packed, packed_none, packed_more, packed-done}
+use Rattle.keys.proofs.KeyParts.{packed_none, packed_more, packed-done}
 use Rattle.keys.proofs.packing.pack_anchors.Goals as goal
 
 pub loop-i-init : goal.loop-i-init

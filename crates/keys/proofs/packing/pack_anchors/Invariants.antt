@@ -1,14 +1,8 @@
-use Prim.Native.Nat.{◌-◌, ◌≤◌}
-use mathlib.Core.Path.{◌≡◌, refl, sym, ◌∙◌}
+use Prim.Native.Nat.{◌-◌}
 use mathlib.Core.List.{map}
-use native.Mathlib.Omega.{arith}
-use borrow.Author.Rules.{rules}
-use lib.ListN.{length, length-map, length-set, get_or-map}
-use Rattle.lists.proofs.Loops.{long}
 use Rattle.layout.specs.Topology.{anchor_name}
-use Rattle.layout.specs.Steps.Starts.{no_anchor}
 use Rattle.keys.specs.Steps.{x_pattern}
-use Rattle.keys.proofs.KeyParts.{Packed, packed_none, packed_more, packed-done}
+use Rattle.keys.proofs.KeyParts.{Packed}
 use Rattle.keys.proofs.packing.pack_anchors.Given as goal
 
 abbrev pub invariant-loop-i : goal.invariant-loop-i

@@ -1,14 +1,12 @@
 -- The names and flags of the first i channels are written.
-use Prim.Native.Nat.{◌-◌, ◌≤◌}
 use mathlib.Core.Path.{◌≡◌, refl, sym, ◌∙◌}
-use mathlib.Core.List.{map}
 use native.Mathlib.Omega.{arith}
 use borrow.Author.Rules.{rules}
 use lib.ListN.{length, length-map, length-set, get_or-map}
 use Rattle.lists.proofs.Loops.{long}
 use Rattle.layout.specs.Channels.{channel_name, no_channel}
 use Rattle.keys.specs.Keys.{flag_number}
-use Rattle.keys.proofs.KeyParts.{Packed, packed_none, packed_more, packed-done}
+use Rattle.keys.proofs.KeyParts.{packed_none, packed_more, packed-done}
 use Rattle.keys.proofs.packing.pack_channels.Goals as goal
 
 pub loop-i-init : goal.loop-i-init

@@ -1,17 +1,17 @@
 -- The counts and y of the first i rows are written, and anchors is where the next row's anchors begin.
-use Prim.Native.Nat.{◌-◌, ◌<◌, ◌≤◌}
+use Prim.Native.Nat.{◌<◌, ◌≤◌}
 use mathlib.Core.Path.{◌≡◌, refl, sym, ◌∙◌}
 use mathlib.Core.List.{map}
 use native.Mathlib.Numerals.{add-one}
 use native.Mathlib.Omega.{arith}
 use borrow.Author.Rules.{rules}
-use lib.ListN.{length, get_or, length-map, length-set, get_or-map}
+use lib.ListN.{length, length-map, length-set, get_or-map}
 use Rattle.lists.proofs.Loops.{long}
 use Rattle.layout.specs.Topology.{row_count}
-use Rattle.layout.specs.Steps.Starts.{no_row, starts_from}
+use Rattle.layout.specs.Steps.Starts.{no_row}
 use Rattle.layout.proofs.StartsFrom.{starts_first, starts-next}
 use Rattle.keys.specs.Steps.{y_pattern}
-use Rattle.keys.proofs.KeyParts.{Packed, packed_none, packed_more, packed-done}
+use Rattle.keys.proofs.KeyParts.{packed_none, packed_more, packed-done}
 use Rattle.keys.proofs.packing.pack_rows.Goals as goal
 
 pub loop-i-init : goal.loop-i-init
@@ -32,8 +32,8 @@ returns c =
     let v = c.loop-i in
     let e : v.i ≡ c.args.n = omega arith in
     record {
-    value = v.invariant.1 ∙ rw e;
-    key = packed-done _ _ _ _ _ _ _ _ v.invariant.0 (omega arith);
+      value = v.invariant.1 ∙ rw e;
+      key = packed-done _ _ _ _ _ _ _ _ v.invariant.0 (omega arith);
     }
 
 pub bounds-key-i-in-loop-i : goal.bounds-key-i-in-loop-i

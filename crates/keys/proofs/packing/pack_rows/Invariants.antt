@@ -1,16 +1,11 @@
-use Prim.Native.Nat.{◌-◌, ◌<◌, ◌≤◌}
-use mathlib.Core.Path.{◌≡◌, refl, sym, ◌∙◌}
+use Prim.Native.Nat.{◌-◌}
+use mathlib.Core.Path.{◌≡◌}
 use mathlib.Core.List.{map}
-use native.Mathlib.Numerals.{add-one}
-use native.Mathlib.Omega.{arith}
-use borrow.Author.Rules.{rules}
-use lib.ListN.{length, get_or, length-map, length-set, get_or-map}
-use Rattle.lists.proofs.Loops.{long}
+use lib.ListN.{get_or}
 use Rattle.layout.specs.Topology.{row_count}
-use Rattle.layout.specs.Steps.Starts.{no_row, starts_from}
-use Rattle.layout.proofs.StartsFrom.{starts_first, starts-next}
+use Rattle.layout.specs.Steps.Starts.{starts_from}
 use Rattle.keys.specs.Steps.{y_pattern}
-use Rattle.keys.proofs.KeyParts.{Packed, packed_none, packed_more, packed-done}
+use Rattle.keys.proofs.KeyParts.{Packed}
 use Rattle.keys.proofs.packing.pack_rows.Given as goal
 
 abbrev pub invariant-loop-i : goal.invariant-loop-i

@@ -1,6 +1,5 @@
 -- The literal 0.0 is the zero of the definition.
 use lib.Ieee.{of_bits}
-use borrow.Author.Rules.{rules}
 use Rattle.keys.proofs.packing.pattern_of.Goals as goal
 
 pub returns : goal.returns

@@ -1,14 +1,10 @@
-use Prim.Native.Nat.{◌+◌, ◌-◌}
-use mathlib.Core.Path.{◌≡◌, refl, ap}
-use native.Mathlib.Omega.{arith}
-use borrow.Author.Rules.{rules}
-use lib.Ieee.{Float}
-use lib.ListN.{length, get_or}
+use Prim.Native.Nat.{◌-◌}
+use mathlib.Core.Path.{◌≡◌}
+use lib.ListN.{length}
 use lib.Seq.{slice}
 use Rattle.lists.specs.Lists.{zip_with}
-use Rattle.lists.proofs.Fill.{Filled, fill_done}
+use Rattle.lists.proofs.Fill.{Filled}
 use Rattle.keys.specs.InKey.{anchor_in}
-use Rattle.keys.proofs.Unpacked.{parts_none, parts_more}
 use Rattle.keys.proofs.unpacking.anchors_in.Given as goal
 
 abbrev pub invariant-loop-i : goal.invariant-loop-i

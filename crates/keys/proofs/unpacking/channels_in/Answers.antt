@@ -1,13 +1,10 @@
 -- The first i entries are written.
-use Prim.Native.Nat.{ℕ, ◌+◌, ◌-◌}
+use Prim.Native.Nat.{ℕ, ◌+◌}
 use mathlib.Core.Path.{◌≡◌, refl, sym, ap, ◌∙◌}
 use native.Mathlib.Omega.{arith}
 use native.Mathlib.Nat.{zero-add}
-use borrow.Author.Rules.{rules}
 use lib.ListN.{length, get_or}
-use lib.Seq.{slice}
-use Rattle.lists.specs.Lists.{zip_with}
-use Rattle.lists.proofs.Fill.{Filled, fill_done}
+use Rattle.lists.proofs.Fill.{fill_done}
 use Rattle.keys.specs.InKey.{channel_in}
 use Rattle.keys.proofs.Unpacked.{parts_none, parts_more}
 use Rattle.keys.proofs.unpacking.channels_in.Goals as goal

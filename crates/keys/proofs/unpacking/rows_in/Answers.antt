@@ -1,13 +1,10 @@
 -- The first i entries are written.
-use Prim.Native.Nat.{◌+◌, ◌-◌}
+use Prim.Native.Nat.{◌+◌}
 use mathlib.Core.Path.{◌≡◌, refl, ap}
 use native.Mathlib.Omega.{arith}
-use borrow.Author.Rules.{rules}
 use lib.Ieee.{Float}
 use lib.ListN.{length, get_or}
-use lib.Seq.{slice}
-use Rattle.lists.specs.Lists.{zip_with}
-use Rattle.lists.proofs.Fill.{Filled, fill_done}
+use Rattle.lists.proofs.Fill.{fill_done}
 use Rattle.keys.specs.InKey.{row_in}
 use Rattle.keys.proofs.Unpacked.{parts_none, parts_more}
 use Rattle.keys.proofs.unpacking.rows_in.Goals as goal

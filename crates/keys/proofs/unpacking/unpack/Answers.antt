@@ -1,5 +1,4 @@
 -- The parts are those of the layout in the key.
-use borrow.Author.Rules.{rules}
 use Rattle.keys.specs.InKey.{layout_in}
 use Rattle.keys.proofs.unpacking.unpack.Goals as goal
 

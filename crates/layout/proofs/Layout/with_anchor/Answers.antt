@@ -3,7 +3,7 @@ use Prim.Native.Nat.{◌≤◌}
 use native.Mathlib.Omega.{arith}
 use borrow.Author.Rules.{rules}
 use Rattle.lists.proofs.Loops.{long}
-use Rattle.layout.proofs.Sizes.{Sized, rows_fit}
+use Rattle.layout.proofs.Sizes.{rows_fit}
 use Rattle.layout.proofs.build.Last.{layer-bounds, no-anchor-added, no-row-for-it, some-row, anchor-here, anchor-past}
 use Rattle.layout.proofs.Layout.with_anchor.Goals as goal
 

@@ -1,9 +1,7 @@
 -- Where there is a last layer, `depth - 1` is a place of the layers.
-use Prim.Native.Nat.{◌≤◌}
 use native.Mathlib.Omega.{arith}
 use borrow.Author.Rules.{rules}
 use Rattle.lists.proofs.Loops.{long}
-use Rattle.layout.proofs.Sizes.{Sized}
 use Rattle.layout.proofs.build.Last.{layer-bounds, no-row-added, row_here, row-past}
 use Rattle.layout.proofs.Layout.with_row.Goals as goal
 

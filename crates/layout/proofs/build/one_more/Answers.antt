@@ -1,5 +1,4 @@
 -- By whether the count is the largest.
-use borrow.Author.Rules.{rules}
 use borrow.Author.Tests.{lt-ltb, le-ltb}
 use Rattle.layout.proofs.build.one_more.Goals as goal
 

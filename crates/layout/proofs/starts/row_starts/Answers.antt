@@ -1,7 +1,5 @@
 -- The first i + 1 starts are written, and s is the last of them.
-use Prim.Native.Nat.{◌-◌}
 use mathlib.Core.Path.{sym}
-use mathlib.Core.List.{map}
 use native.Mathlib.Omega.{arith}
 use borrow.Author.Rules.{rules}
 use lib.ListN.{length-map, get_or-map}
@@ -9,7 +7,7 @@ use Rattle.lists.proofs.Loops.{long}
 use Rattle.lists.proofs.Fill.{fill_done}
 use Rattle.layout.specs.Topology.{layer_count}
 use Rattle.layout.specs.Steps.Starts.{no_layer}
-use Rattle.layout.proofs.StartsFrom.{Started, start_none, start-more}
+use Rattle.layout.proofs.StartsFrom.{start_none, start-more}
 use Rattle.layout.proofs.starts.row_starts.Goals as goal
 
 pub loop-i-init : goal.loop-i-init

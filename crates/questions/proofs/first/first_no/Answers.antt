@@ -1,19 +1,16 @@
 -- Each answer is found after a "yes" to those before it.
-use Prim.Native.Nat.{ℕ, ◌+◌, ◌≤◌}
-use mathlib.Core.Path.{◌≡◌, sym, ap, ◌∙◌}
-use mathlib.Core.Bool.{true, ◌&&◌}
-use mathlib.Core.List.{List}
+use Prim.Native.Nat.{◌+◌}
+use mathlib.Core.Path.{sym, ap, ◌∙◌}
 use borrow.Author.Rules.{rules}
 use borrow.Author.Tests.{not-true, not-false, le-leb, lt-leb}
-use lib.ListN.{length, take, get_or}
+use lib.ListN.{take, get_or}
 use lib.Seq.{slice}
 use Rattle.lists.specs.Lists.{all_of, all_distinct}
 use Rattle.layout.specs.Name.{valid_name}
-use Rattle.layout.specs.Questions.{from_to, question1, question2, question3, question4, question5, question6}
+use Rattle.layout.specs.Questions.{from_to}
 use Rattle.layout.proofs.QuestionsCounted.{both, within, outside}
 use Rattle.layout.proofs.QuestionsNamed.{question1-not}
 use Rattle.layout.proofs.QuestionsFirst.{first-1, first-2, first-3, first-4, first-5, first-6, first-none}
-use Rattle.keys.specs.InKey.{layout_in}
 use Rattle.questions.proofs.Runs.{sum_fits}
 use Rattle.keys.proofs.InKey.{used-is, depth_is}
 use Rattle.questions.proofs.KeyQuestions.{question1-by, question3-by, rows-no, question4-by, question5-by, question6-by}
@@ -125,8 +122,8 @@ all_ordered-requires c =
     let key = s.args.k.now in
     let rows = r.counted-rows.result in
     record {
-    key_len = (((search rules)), ((within 1 4 (get_or d.args.k.now 153 0) (not-false _ (sym (outside 1 4 (get_or d.args.k.now 153 0)) ∙ d.if-depth.false))).1), r.if-rows-gt24.false);
-    key_bound = (sum_fits 6 rows (slice 48 (48 + get_or key 153 0) key) r.counted-rows.ensures r.if-rows-gt24.false, sum_fits 24 c.counted-anchors.result (slice 52 (52 + rows) key) c.counted-anchors.ensures c.if-anchors-gt24.false);
+      key_len = (((search rules)), ((within 1 4 (get_or d.args.k.now 153 0) (not-false _ (sym (outside 1 4 (get_or d.args.k.now 153 0)) ∙ d.if-depth.false))).1), r.if-rows-gt24.false);
+      key_bound = (sum_fits 6 rows (slice 48 (48 + get_or key 153 0) key) r.counted-rows.ensures r.if-rows-gt24.false, sum_fits 24 c.counted-anchors.result (slice 52 (52 + rows) key) c.counted-anchors.ensures c.if-anchors-gt24.false);
     }
 
 pub anchors_named-requires : goal.anchors_named-requires

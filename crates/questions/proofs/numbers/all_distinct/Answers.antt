@@ -1,12 +1,11 @@
 -- Those that are passed are all different.
-use Prim.Native.Nat.{◌≤◌, ◌<◌, ◌-◌}
+use Prim.Native.Nat.{◌<◌}
 use mathlib.Core.Path.{◌≡◌, refl, sym, ap, ◌∙◌}
-use mathlib.Core.Bool.{true, not}
+use mathlib.Core.Bool.{not}
 use native.Mathlib.Omega.{arith}
 use borrow.Author.Rules.{rules}
 use borrow.Author.Tests.{lt-ltb, le-ltb}
-use lib.ListN.{length, take}
-use Rattle.lists.specs.Lists.{all_distinct}
+use lib.ListN.{length}
 use Rattle.questions.proofs.Distinct.{before, front, front-not}
 use Rattle.questions.proofs.numbers.all_distinct.Goals as goal
 

@@ -1,12 +1,8 @@
-use Prim.Native.Nat.{◌≤◌, ◌<◌, ◌-◌}
-use mathlib.Core.Path.{◌≡◌, refl, sym, ap, ◌∙◌}
-use mathlib.Core.Bool.{true, not}
-use native.Mathlib.Omega.{arith}
-use borrow.Author.Rules.{rules}
-use borrow.Author.Tests.{lt-ltb, le-ltb}
+use Prim.Native.Nat.{◌≤◌, ◌-◌}
+use mathlib.Core.Path.{◌≡◌}
+use mathlib.Core.Bool.{true}
 use lib.ListN.{length, take}
 use Rattle.lists.specs.Lists.{all_distinct}
-use Rattle.questions.proofs.Distinct.{before, front, front-not}
 use Rattle.questions.proofs.numbers.all_distinct.Given as goal
 
 abbrev pub invariant-loop-i : goal.invariant-loop-i

@@ -1,17 +1,15 @@
 -- What is passed ascends from at least -1, and what is left goes on from the last: together this says whether the whole is ordered.
-use Prim.Native.Nat.{ℕ, ◌≤◌, ◌-◌}
+use Prim.Native.Nat.{ℕ, ◌≤◌}
 use mathlib.Core.Path.{◌≡◌, sym, ap, ◌∙◌}
-use mathlib.Core.Bool.{◌&&◌}
 use mathlib.Core.List.{List, [], map}
 use native.Mathlib.Omega.{arith}
-use borrow.Author.Rules.{rules}
 use lib.Ieee.{Float, of_bits, neg}
 use lib.ListN.{length, take, drop_of_length-le, length-take}
 use lib.Seq.{slice}
 use Rattle.lists.proofs.Loops.{slice-map, slice-done}
 use Rattle.layout.specs.Questions.{ordered}
 use Rattle.keys.specs.InKey.{double}
-use Rattle.questions.proofs.Ascending.{goes_on, goes_first, goes-next, slice_fits}
+use Rattle.questions.proofs.Ascending.{goes_first, goes-next, slice_fits}
 use Rattle.questions.proofs.numbers.is_ordered.Goals as goal
 
 empty : (a b : ℕ) (v : List Float) → b ≤ a → slice a b v ≡ []

@@ -1,5 +1,4 @@
 -- The three parts together.
-use borrow.Author.Rules.{rules}
 use Rattle.questions.proofs.parts.all_ordered.Goals as goal
 
 pub returns : goal.returns

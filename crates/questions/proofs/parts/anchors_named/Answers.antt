@@ -1,16 +1,16 @@
 -- The names that are passed are those of active channels: what is left says of the whole.
-use Prim.Native.Nat.{ℕ, ◌+◌, ◌≤◌, ◌<◌, ◌-◌}
+use Prim.Native.Nat.{ℕ, ◌+◌, ◌≤◌, ◌<◌}
 use mathlib.Core.Path.{◌≡◌, sym, ap, ◌∙◌}
 use mathlib.Core.Bool.{true, false}
 use native.Mathlib.Omega.{arith}
 use borrow.Author.Rules.{rules}
 use borrow.Author.Tests.{eq-eqb, ne_eqb, lt-ltb, le-ltb}
 use lib.ListN.{length, take, get_or}
-use lib.Seq.{slice, length-take-le}
+use lib.Seq.{length-take-le}
 use mathlib.Core.List.{List}
 use Rattle.layout.proofs.QuestionsLoops.{all-not, all-next, place-most}
 use Rattle.questions.specs.Steps.KeyNames.{index_in, is_active_name, all_active_names}
-use Rattle.questions.proofs.Runs.{left, left-all, left-more, left-done}
+use Rattle.questions.proofs.Runs.{left-all, left-more, left-done}
 use Rattle.questions.proofs.parts.anchors_named.Goals as goal
 
 pub loop-i-init : goal.loop-i-init

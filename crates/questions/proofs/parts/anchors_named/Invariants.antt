@@ -1,15 +1,9 @@
-use Prim.Native.Nat.{ℕ, ◌+◌, ◌≤◌, ◌<◌, ◌-◌}
-use mathlib.Core.Path.{◌≡◌, sym, ap, ◌∙◌}
-use mathlib.Core.Bool.{true, false}
-use native.Mathlib.Omega.{arith}
-use borrow.Author.Rules.{rules}
-use borrow.Author.Tests.{eq-eqb, ne_eqb, lt-ltb, le-ltb}
-use lib.ListN.{length, take, get_or}
-use lib.Seq.{slice, length-take-le}
-use mathlib.Core.List.{List}
-use Rattle.layout.proofs.QuestionsLoops.{all-not, all-next, place-most}
-use Rattle.questions.specs.Steps.KeyNames.{index_in, is_active_name, all_active_names}
-use Rattle.questions.proofs.Runs.{left, left-all, left-more, left-done}
+use Prim.Native.Nat.{◌+◌, ◌≤◌, ◌-◌}
+use mathlib.Core.Path.{◌≡◌}
+use lib.ListN.{length}
+use lib.Seq.{slice}
+use Rattle.questions.specs.Steps.KeyNames.{all_active_names}
+use Rattle.questions.proofs.Runs.{left}
 use Rattle.questions.proofs.parts.anchors_named.Given as goal
 
 abbrev pub invariant-loop-i : goal.invariant-loop-i

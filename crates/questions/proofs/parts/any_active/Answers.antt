@@ -1,14 +1,11 @@
 -- Whether one of the rest is active is whether one of all is.
-use Prim.Native.Nat.{◌+◌, ◌≤◌, ◌-◌}
-use mathlib.Core.Path.{◌≡◌, sym, ap}
+use mathlib.Core.Path.{sym, ap}
 use native.Mathlib.Omega.{arith}
 use borrow.Author.Rules.{rules}
 use borrow.Author.Tests.{eq-eqb, ne_eqb}
 use lib.Dec.{eqb}
-use lib.ListN.{length}
-use lib.Seq.{slice}
 use Rattle.lists.specs.Lists.{any_of}
-use Rattle.questions.proofs.Runs.{left, left-all, left-more, left-done}
+use Rattle.questions.proofs.Runs.{left-all, left-more, left-done}
 use Rattle.questions.proofs.parts.any_active.Goals as goal
 
 pub returns-then-key-i-eq1 : goal.returns-then-key-i-eq1

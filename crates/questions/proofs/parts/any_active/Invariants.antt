@@ -1,13 +1,10 @@
 use Prim.Native.Nat.{◌+◌, ◌≤◌, ◌-◌}
-use mathlib.Core.Path.{◌≡◌, sym, ap}
-use native.Mathlib.Omega.{arith}
-use borrow.Author.Rules.{rules}
-use borrow.Author.Tests.{eq-eqb, ne_eqb}
+use mathlib.Core.Path.{◌≡◌}
 use lib.Dec.{eqb}
 use lib.ListN.{length}
 use lib.Seq.{slice}
 use Rattle.lists.specs.Lists.{any_of}
-use Rattle.questions.proofs.Runs.{left, left-all, left-more, left-done}
+use Rattle.questions.proofs.Runs.{left}
 use Rattle.questions.proofs.parts.any_active.Given as goal
 
 abbrev pub invariant-loop-i : goal.invariant-loop-i

@@ -1,14 +1,13 @@
 -- What is counted and what is left to count make the whole count.
-use Prim.Native.Nat.{◌-◌, ◌+◌}
+use Prim.Native.Nat.{◌+◌}
 use mathlib.Core.Path.{◌≡◌, sym, ◌∙◌}
 use mathlib.Core.Bool.{true}
 use native.Mathlib.Omega.{arith}
-use borrow.Author.Rules.{rules}
 use borrow.Author.Tests.{not-true, not-false}
 use lib.ListN.{get_or}
 use Rattle.layout.specs.Questions.{from_to}
 use Rattle.layout.proofs.QuestionsCounted.{within, outside}
-use Rattle.questions.proofs.Runs.{Summed, sum-none, sum_more, sum-not, sum_done}
+use Rattle.questions.proofs.Runs.{sum-none, sum_more, sum-not, sum_done}
 use Rattle.questions.proofs.parts.counted.Goals as goal
 
 pub loop-i-init : goal.loop-i-init

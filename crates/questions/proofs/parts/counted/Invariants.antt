@@ -1,13 +1,5 @@
-use Prim.Native.Nat.{◌-◌, ◌+◌}
-use mathlib.Core.Path.{◌≡◌, sym, ◌∙◌}
-use mathlib.Core.Bool.{true}
-use native.Mathlib.Omega.{arith}
-use borrow.Author.Rules.{rules}
-use borrow.Author.Tests.{not-true, not-false}
-use lib.ListN.{get_or}
-use Rattle.layout.specs.Questions.{from_to}
-use Rattle.layout.proofs.QuestionsCounted.{within, outside}
-use Rattle.questions.proofs.Runs.{Summed, sum-none, sum_more, sum-not, sum_done}
+use Prim.Native.Nat.{◌-◌}
+use Rattle.questions.proofs.Runs.{Summed}
 use Rattle.questions.proofs.parts.counted.Given as goal
 
 abbrev pub invariant-loop-i : goal.invariant-loop-i

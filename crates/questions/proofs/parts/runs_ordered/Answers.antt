@@ -1,11 +1,9 @@
 -- The runs that are passed and those that are left are ordered together.
-use Prim.Native.Nat.{◌-◌, ◌+◌, ◌≤◌}
-use mathlib.Core.List.{map}
-use lib.ListN.{length, get_or, length-map}
+use lib.ListN.{length-map}
 use native.Mathlib.Omega.{arith}
 use borrow.Author.Rules.{rules}
 use Rattle.keys.specs.InKey.{double}
-use Rattle.questions.proofs.Runs.{Ordered, order-none, order-fits, order-more, order-done}
+use Rattle.questions.proofs.Runs.{order-none, order-fits, order-more, order-done}
 use Rattle.questions.proofs.parts.runs_ordered.Goals as goal
 
 pub loop-i-init : goal.loop-i-init

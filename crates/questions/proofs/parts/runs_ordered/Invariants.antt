@@ -1,10 +1,7 @@
-use Prim.Native.Nat.{◌-◌, ◌+◌, ◌≤◌}
+use Prim.Native.Nat.{◌-◌}
 use mathlib.Core.List.{map}
-use lib.ListN.{length, get_or, length-map}
-use native.Mathlib.Omega.{arith}
-use borrow.Author.Rules.{rules}
 use Rattle.keys.specs.InKey.{double}
-use Rattle.questions.proofs.Runs.{Ordered, order-none, order-fits, order-more, order-done}
+use Rattle.questions.proofs.Runs.{Ordered}
 use Rattle.questions.proofs.parts.runs_ordered.Given as goal
 
 abbrev pub invariant-loop-i : goal.invariant-loop-i

@@ -1,4 +1,3 @@
-use borrow.Author.Tests.{ne_eqb}
 use Rattle.region.proofs.flags.of_packed.Goals as goal
 
 pub returns-in-31 : goal.returns-in-31

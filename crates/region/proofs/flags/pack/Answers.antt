@@ -1,6 +1,5 @@
 -- Each flag is at most 1, so nothing wraps.
 use native.Mathlib.Omega.{arith}
-use borrow.Author.Rules.{rules}
 use Rattle.region.proofs.flags.Bits.{byte-most}
 use Rattle.region.proofs.flags.pack.Goals as goal
 

@@ -1,14 +1,12 @@
 -- By questions 11 to 14, and then by the mean.
 -- the questions that were asked are those of what is wanted
-use mathlib.Core.Path.{◌≡◌, sym, ap, ◌∙◌}
+use mathlib.Core.Path.{sym, ap, ◌∙◌}
 use mathlib.Core.List.{◌++◌}
 use Prim.Native.Nat.{ℕ}
-use borrow.Author.Rules.{rules}
 use lib.ListN.{length}
 use Rattle.layout.specs.Questions.{first_no}
 use Rattle.cache.specs.Questions.{lent_questions, state_questions}
 use Rattle.cache.proofs.Later.{later-gives}
-use Rattle.selector.specs.Steps.{wanted_in, later_questions, found_by}
 use Rattle.selector.proofs.Answers.{accepted-leaves, later-refused, later-unused, later-keyed}
 use Rattle.selector.proofs.call.answer_by_key.Goals as goal
 
@@ -26,8 +24,8 @@ returns-then-mean-eq0 c =
 pub keyed-requires : goal.keyed-requires
 keyed-requires c =
     record {
-    key_value = c.requires;
-    in_bounds = (later-gives c.args.c c.args.points.now _ _ _ c.args.r (sym c.later_no-q.ensures ∙ c.if-q-ne0.false)).2;
+      key_value = c.requires;
+      in_bounds = (later-gives c.args.c c.args.points.now _ _ _ c.args.r (sym c.later_no-q.ensures ∙ c.if-q-ne0.false)).2;
     }
 
 pub returns : goal.returns

@@ -1,5 +1,4 @@
 -- The new field, its key, and the gains by it.
-use borrow.Author.Rules.{rules}
 use Rattle.selector.proofs.Answers.{built-leaves}
 use Rattle.selector.proofs.call.build.Goals as goal
 

@@ -1,5 +1,4 @@
 -- By the slot of the key.
-use borrow.Author.Rules.{rules}
 use Rattle.selector.proofs.Answers.{accepted-leaves, keyed-leaves}
 use Rattle.selector.proofs.call.keyed.Goals as goal
 

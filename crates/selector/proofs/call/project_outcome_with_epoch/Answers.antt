@@ -3,7 +3,6 @@ use mathlib.Core.Path.{sym, subst}
 use borrow.Author.Rules.{rules}
 use lib.Dec.{T}
 use Rattle.lists.proofs.Loops.{long}
-use Rattle.selector.specs.Call.{Typed}
 use Rattle.selector.specs.Steps.{call_by, found_by}
 use Rattle.selector.proofs.Owned.{zs-owned, ys-owned, xs-owned}
 use Rattle.selector.proofs.Selected.{plan-refuses, plan-yes, plan-serves}
@@ -39,22 +38,22 @@ returns-in-Refused c =
       centre = (subst T (sym at.1.1.0.1) tt, subst T (sym at.1.1.1.0.1) tt, subst T (sym at.1.1.1.1.0.1) tt);
     }) (found_by c.args.keys.now c.args.r c.args.store.now) _ c.pack.ensures _ c.plan-planned.ensures.value _ _ c.in-Refused.is c.refused.ensures in
     record {
-    value = h.0;
-    keys = h.1.0;
-    store = h.1.1.0;
-    gains = h.1.1.1;
-    typed = (let lent = c.well_formed.1.1.1.0 in
-    let at = c.well_formed.1.1.1.1.1.1.1.0 in
-    record {
-      channels = search (rules, long);
-      layers = search (rules, long);
-      rows = search (rules, long);
-      anchors = search (rules, long);
-      zs = zs-owned c.args.l.layers lent.1.1.1.1.0.0 lent.1.1.1.1.0.1.1;
-      ys = ys-owned c.args.l.rows lent.1.1.1.1.1.1.0.0 lent.1.1.1.1.1.1.0.1.1;
-      xs = xs-owned c.args.l.anchors lent.1.1.1.1.1.1.1.0.0 lent.1.1.1.1.1.1.1.0.1.1;
-      centre = (subst T (sym at.1.1.0.1) tt, subst T (sym at.1.1.1.0.1) tt, subst T (sym at.1.1.1.1.0.1) tt);
-    });
+      value = h.0;
+      keys = h.1.0;
+      store = h.1.1.0;
+      gains = h.1.1.1;
+      typed = (let lent = c.well_formed.1.1.1.0 in
+          let at = c.well_formed.1.1.1.1.1.1.1.0 in
+          record {
+            channels = search (rules, long);
+            layers = search (rules, long);
+            rows = search (rules, long);
+            anchors = search (rules, long);
+            zs = zs-owned c.args.l.layers lent.1.1.1.1.0.0 lent.1.1.1.1.0.1.1;
+            ys = ys-owned c.args.l.rows lent.1.1.1.1.1.1.0.0 lent.1.1.1.1.1.1.0.1.1;
+            xs = xs-owned c.args.l.anchors lent.1.1.1.1.1.1.1.0.0 lent.1.1.1.1.1.1.1.0.1.1;
+            centre = (subst T (sym at.1.1.0.1) tt, subst T (sym at.1.1.1.0.1) tt, subst T (sym at.1.1.1.1.0.1) tt);
+          });
     }
 
 pub returns-in-Wide : goal.returns-in-Wide
@@ -72,20 +71,20 @@ returns-in-Wide c =
       centre = (subst T (sym at.1.1.0.1) tt, subst T (sym at.1.1.1.0.1) tt, subst T (sym at.1.1.1.1.0.1) tt);
     }) (found_by c.args.keys.now c.args.r c.args.store.now) _ c.pack.ensures _ c.plan-planned.ensures.value _ _ c.in-Wide.is _ c.plan-planned.ensures.key _ _ _ _ c.answer_by_key.ensures in
     record {
-    value = h.0;
-    keys = h.1.0;
-    store = h.1.1.0;
-    gains = h.1.1.1;
-    typed = (let lent = c.well_formed.1.1.1.0 in
-    let at = c.well_formed.1.1.1.1.1.1.1.0 in
-    record {
-      channels = search (rules, long);
-      layers = search (rules, long);
-      rows = search (rules, long);
-      anchors = search (rules, long);
-      zs = zs-owned c.args.l.layers lent.1.1.1.1.0.0 lent.1.1.1.1.0.1.1;
-      ys = ys-owned c.args.l.rows lent.1.1.1.1.1.1.0.0 lent.1.1.1.1.1.1.0.1.1;
-      xs = xs-owned c.args.l.anchors lent.1.1.1.1.1.1.1.0.0 lent.1.1.1.1.1.1.1.0.1.1;
-      centre = (subst T (sym at.1.1.0.1) tt, subst T (sym at.1.1.1.0.1) tt, subst T (sym at.1.1.1.1.0.1) tt);
-    });
+      value = h.0;
+      keys = h.1.0;
+      store = h.1.1.0;
+      gains = h.1.1.1;
+      typed = (let lent = c.well_formed.1.1.1.0 in
+          let at = c.well_formed.1.1.1.1.1.1.1.0 in
+          record {
+            channels = search (rules, long);
+            layers = search (rules, long);
+            rows = search (rules, long);
+            anchors = search (rules, long);
+            zs = zs-owned c.args.l.layers lent.1.1.1.1.0.0 lent.1.1.1.1.0.1.1;
+            ys = ys-owned c.args.l.rows lent.1.1.1.1.1.1.0.0 lent.1.1.1.1.1.1.0.1.1;
+            xs = xs-owned c.args.l.anchors lent.1.1.1.1.1.1.1.0.0 lent.1.1.1.1.1.1.1.0.1.1;
+            centre = (subst T (sym at.1.1.0.1) tt, subst T (sym at.1.1.1.0.1) tt, subst T (sym at.1.1.1.1.0.1) tt);
+          });
     }

@@ -1,7 +1,6 @@
 -- By whether questions 1 to 6 have a no.
 use mathlib.Core.Path.{sym, ap, ◌∙◌}
 use Prim.Native.Nat.{ℕ}
-use borrow.Author.Rules.{rules}
 use Rattle.layout.specs.Questions.{or_else}
 use Rattle.layout.proofs.QuestionLists.{or-none, or-first}
 use Rattle.selector.proofs.planning.first_or.Goals as goal
