@@ -1,5 +1,4 @@
 -- `extent::radius::extent_radius` meets its contract, by `proofs/radius/Transfer.antt`. Assumes nothing.
--- the clamped scalar
 use mathlib.Core.Path.{sym, ◌∙◌}
 use lib.Ieee.{of_bits, round}
 use Rattle.extent.proofs.radius.Transfer.{clamped, first-is, second_is, third-is, fourth-is, fifth-is, last-is}

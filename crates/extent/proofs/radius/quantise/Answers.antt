@@ -1,5 +1,4 @@
 -- `extent::radius::quantise` meets its contract, by `proofs/radius/Nearest.antt`. Assumes nothing.
--- v is a double
 use mathlib.Core.Path.{◌≡◌, sym, ◌∙◌, subst}
 use native.Mathlib.Omega.{arith}
 use mathlib.Core.Bool.{true}

@@ -1,5 +1,4 @@
 -- `gains::diffuse::ends_of` meets its contract: the row lies in the place. Assumes nothing.
--- the far row ends within the place
 use Prim.Native.Nat.{◌+◌, ◌≤◌}
 use native.Mathlib.Nat.{mul-le-mul_right}
 use native.Mathlib.Omega.{arith}

@@ -7,6 +7,7 @@ use Rattle.doubles.specs.Arithmetic.{◌⊗◌}
 use Rattle.gains.proofs.lookup.Writing.{Written}
 use Rattle.gains.proofs.diffuse.interior.Given as goal
 
+-- the value of channel k
 abbrev pub value : List Float → List Float → List Float → ℕ → Float
 value x y z k = get_or x k nan ⊗ get_or y k nan ⊗ get_or z k nan
 

@@ -1,5 +1,4 @@
 -- `gains::diffuse::on_axes` meets its contract: the tables lie in the place. Assumes nothing.
--- the radius is a double
 use mathlib.Core.Path.{sym, subst, ◌∙◌}
 use native.Mathlib.Omega.{arith}
 use lib.Dec.{T}

@@ -1,5 +1,4 @@
 -- `gains::diffuse::shaped_end` meets its contract, by the cases of its definition: the power is finite. Assumes nothing.
--- a finite number is positive where it is above zero
 use mathlib.Core.Path.{◌≡◌, refl, sym, ap, ◌∙◌, subst}
 use mathlib.Core.Bool.{Bool, true, false, ◌&&◌}
 use lib.Dec.{T}
@@ -12,6 +11,7 @@ use Rattle.extent.specs.Kernel.{positive}
 use Rattle.extent.proofs.KernelCases.{shaped-not, shaped-good, shaped-bad}
 use Rattle.gains.proofs.diffuse.shaped_end.Goals as goal
 
+-- a finite number is positive where it is above zero
 above : (x : Float) → T (finite x) → positive x ≡ lt zero64 x
 above x h = go (finite x) h
   where

@@ -1,5 +1,4 @@
 -- `gains::diffuse::shaped_ends` meets its contract: after k turns the first k channels are written. Assumes nothing.
--- the value of channel k
 use mathlib.Core.Path.{◌≡◌}
 use native.Mathlib.Omega.{arith}
 use borrow.Author.Rules.{rules}

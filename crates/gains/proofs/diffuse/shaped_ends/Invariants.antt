@@ -8,6 +8,7 @@ use Rattle.extent.specs.Kernel.{shaped_of}
 use Rattle.gains.proofs.lookup.Writing.{Written}
 use Rattle.gains.proofs.diffuse.shaped_ends.Given as goal
 
+-- the value of channel k
 abbrev pub value : List Float → ℕ → Float → Float → ℕ → Float
 value store ends kernel exponent k = shaped_of (kernel ⊗ get_or store (ends + k) nan) exponent
 

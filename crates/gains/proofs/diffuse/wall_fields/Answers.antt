@@ -1,5 +1,4 @@
 -- `gains::diffuse::wall_fields` meets its contract: after k turns the first k channels are written. Assumes nothing.
--- the field of channel k, x being what stands there
 use mathlib.Core.Path.{◌≡◌, ap}
 use native.Mathlib.Omega.{arith}
 use borrow.Author.Rules.{rules}

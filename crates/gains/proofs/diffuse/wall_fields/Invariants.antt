@@ -7,6 +7,7 @@ use Rattle.doubles.specs.Arithmetic.{◌⊕◌, ◌⊗◌, dec}
 use Rattle.gains.proofs.lookup.Writing.{Written}
 use Rattle.gains.proofs.diffuse.wall_fields.Given as goal
 
+-- the field of channel k, x being what stands there
 abbrev pub field : List Float → List Float → List Float → Float → ℕ → Float → Float
 field ends a b weight k x = dec 31640625 8 ⊗ (x ⊕ weight ⊗ (get_or ends k nan ⊗ get_or a k nan ⊗ get_or b k nan))
 

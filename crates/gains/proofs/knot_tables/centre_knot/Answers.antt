@@ -1,5 +1,4 @@
 -- `gains::knot_tables::centre_knot` meets its contract. Assumes nothing.
--- not 34, so 3
 use Prim.Native.Nat.{ℕ}
 use mathlib.Core.Path.{◌≡◌, refl, sym, ap, ◌∙◌, subst}
 use mathlib.Core.Bool.{Bool, true, false, ◌||◌}
@@ -8,6 +7,7 @@ use lib.Dec.{T, eqb}
 use Rattle.field.specs.Knots.{steps}
 use Rattle.gains.proofs.knot_tables.centre_knot.Goals as goal
 
+-- not 34, so 3
 other : (last : ℕ) → T (eqb last 34 || eqb last 3) → (last ≡ 34 → ⊥) → last ≡ 3
 other last h n = go (eqb last 3) refl (subst (λ (b : Bool). T (b || eqb last 3)) (ne_eqb last 34 n) h)
   where

@@ -8,6 +8,7 @@ use Rattle.gains.specs.Lookup.{lookup_of}
 use Rattle.gains.proofs.lookup.Writing.{Written}
 use Rattle.gains.proofs.lookup.lookup.Given as goal
 
+-- the number of channel k
 abbrev pub number : List Float → ℕ → ℕ → Bracket → Bracket → ℕ → Float
 number store from n c r k = lookup_of (λ (i : ℕ). get_or store (from + (i * n + k)) nan) c r
 
