@@ -7,7 +7,6 @@ use mir.Val.{Val}
 use mir.Facts.{yes_and}
 use denote.Array.{each}
 use denote.Shadow.{shadow}
-use denote.Struct.Declared.{field}
 use Rattle.lists.specs.Lists.{all_of}
 use Rattle.layout.specs.declared.Anchor.{Anchor}
 use Rattle.layout.specs.declared.Row.{Row}
@@ -17,26 +16,17 @@ use Rattle.layout.specs.contracts.Anchor as anchor
 use Rattle.layout.specs.contracts.Row as row
 use Rattle.layout.specs.contracts.Layer as layer
 
-abbrev layer_parts : Layer → (field layer.the_type).row.Denot
-layer_parts y = (y.z, (y.count, tt))
-
-pub zs-owned : (xs : List Layer) (us : List Val) → shadow (each (field layer.the_type).row.Denot (field layer.the_type).row.own_val (map layer_parts xs) us) → T (all_of (fits binary64) (map layer_z xs))
+pub zs-owned : (xs : List Layer) (us : List Val) → shadow (each layer.the_row.Denot layer.the_row.own_val xs us) → T (all_of (fits binary64) (map layer_z xs))
 zs-owned [] us s = tt
 zs-owned (x ∷ xs) [] s = absurd s
 zs-owned (x ∷ xs) (u ∷ us) s = yes_and (fits binary64 x.z) (all_of (fits binary64) (map layer_z xs)) (subst T (sym s.0.1.1.0.1) tt) (zs-owned xs us s.1)
 
-abbrev row_parts : Row → (field row.the_type).row.Denot
-row_parts r = (r.y, (r.count, tt))
-
-pub ys-owned : (xs : List Row) (us : List Val) → shadow (each (field row.the_type).row.Denot (field row.the_type).row.own_val (map row_parts xs) us) → T (all_of (fits binary64) (map row_y xs))
+pub ys-owned : (xs : List Row) (us : List Val) → shadow (each row.the_row.Denot row.the_row.own_val xs us) → T (all_of (fits binary64) (map row_y xs))
 ys-owned [] us s = tt
 ys-owned (x ∷ xs) [] s = absurd s
 ys-owned (x ∷ xs) (u ∷ us) s = yes_and (fits binary64 x.y) (all_of (fits binary64) (map row_y xs)) (subst T (sym s.0.1.1.0.1) tt) (ys-owned xs us s.1)
 
-abbrev anchor_parts : Anchor → (field anchor.the_type).row.Denot
-anchor_parts a = (a.name, (a.x, tt))
-
-pub xs-owned : (xs : List Anchor) (us : List Val) → shadow (each (field anchor.the_type).row.Denot (field anchor.the_type).row.own_val (map anchor_parts xs) us) → T (all_of (fits binary64) (map anchor_x xs))
+pub xs-owned : (xs : List Anchor) (us : List Val) → shadow (each anchor.the_row.Denot anchor.the_row.own_val xs us) → T (all_of (fits binary64) (map anchor_x xs))
 xs-owned [] us s = tt
 xs-owned (x ∷ xs) [] s = absurd s
 xs-owned (x ∷ xs) (u ∷ us) s = yes_and (fits binary64 x.x) (all_of (fits binary64) (map anchor_x xs)) (subst T (sym s.0.1.1.1.0.1) tt) (xs-owned xs us s.1)

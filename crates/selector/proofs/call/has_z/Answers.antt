@@ -8,16 +8,11 @@ use Rattle.keys.proofs.InKey.{sized}
 use Rattle.keys.proofs.InKey as inKey
 use Rattle.layout.proofs.RoomLists.{depth_is}
 use Rattle.layout.proofs.QuestionsAccepted.{accepted}
-use Rattle.selector.proofs.call.has_z.Statement.{statement}
-use Rattle.selector.proofs.call.has_z.Tie as tie
+use Rattle.selector.proofs.call.has_z.Goals as goal
 
-returns : tie.Need-returns
+pub returns : goal.returns
 returns c =
-    let s = c.before.before in
-    let key = s.args.k.now in
+    let key = c.args.k.now in
     let long : length key ≡ 156 = search rules in
     let z = sized key long in
-    ap (ltb 1) (sym (depth_is (layout_in key) z (accepted (layout_in key) z.channels z.layers z.rows z.anchors s.requires) ∙ inKey.depth_is key long))
-
-pub has-z-spec : {M : Type 1} → statement M
-has-z-spec = tie.close (tie.spec (λ c. search rules) returns)
+    ap (ltb 1) (sym (depth_is (layout_in key) z (accepted (layout_in key) z.channels z.layers z.rows z.anchors c.requires) ∙ inKey.depth_is key long))
