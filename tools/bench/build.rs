@@ -1,4 +1,4 @@
-//! Links the archives that `rt staticlib` wrote to the folder that RUGVOCSE_LIBS names.
+//! Links the archive that `rt lib` wrote to the folder that RUGVOCSE_LIBS names.
 use std::env;
 
 fn main() {

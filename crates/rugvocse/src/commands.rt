@@ -6,6 +6,8 @@ use crate::text::{Class, Token, are_of, byte, is_done, letter, next, packed, siz
 use extent::Extent;
 use layout::{Anchor, Centre, Channel, Layout};
 use selector::Selector;
+use std::io;
+use std::io::Write;
 
 // The words of a script, packed.
 const OFF: u64 = 0x66666f;
@@ -353,50 +355,73 @@ fn filled(store: &mut [f64], line: &[u8], length: usize, at: usize, s: Scene) ->
 }
 
 // The commands of one word.
-fn alone(store: &mut [f64], word: u64, line: &[u8], length: usize, at: usize, s: Scene) -> Step {
+fn alone<W: Write>(
+    out: &mut W,
+    store: &mut [f64],
+    word: u64,
+    line: &[u8],
+    length: usize,
+    at: usize,
+    s: Scene,
+) -> io::Result<Step> {
     if !is_done(line, length, at) {
-        return bad(s);
+        return Ok(bad(s));
     }
     match word {
-        LAYOUT => with_layout(s, Layout::new(), false),
-        FRESH => with_selector(s, Selector::new()),
-        GAINS => gains(s, store),
-        _ => show(s, store),
+        LAYOUT => Ok(with_layout(s, Layout::new(), false)),
+        FRESH => Ok(with_selector(s, Selector::new())),
+        GAINS => gains(out, s, store),
+        _ => show(out, s, store),
     }
 }
 
-fn command(store: &mut [f64], line: &[u8], length: usize, t: Token, s: Scene) -> Step {
+fn command<W: Write>(
+    out: &mut W,
+    store: &mut [f64],
+    line: &[u8],
+    length: usize,
+    t: Token,
+    s: Scene,
+) -> io::Result<Step> {
     let word = packed(line, t);
     let at = t.to;
     match word {
-        CHANNEL | LAYER | ROW | ANCHOR => room(word, line, length, at, s),
-        EXTENT | ZONES | CENTRE | POINTS => object(word, line, length, at, s),
-        EPOCH | SLOTS | STORE => counted(word, line, length, at, s),
-        LAYOUT | FRESH | GAINS | SHOW => alone(store, word, line, length, at, s),
-        STATE => state(line, length, at, s),
-        FILL => filled(store, line, length, at, s),
-        _ => bad(s),
+        CHANNEL | LAYER | ROW | ANCHOR => Ok(room(word, line, length, at, s)),
+        EXTENT | ZONES | CENTRE | POINTS => Ok(object(word, line, length, at, s)),
+        EPOCH | SLOTS | STORE => Ok(counted(word, line, length, at, s)),
+        LAYOUT | FRESH | GAINS | SHOW => alone(out, store, word, line, length, at, s),
+        STATE => Ok(state(line, length, at, s)),
+        FILL => Ok(filled(store, line, length, at, s)),
+        _ => Ok(bad(s)),
     }
 }
 
-fn told(r: Step, number: u64) -> Scene {
+fn told<W: Write>(out: &mut W, r: Step, number: u64) -> io::Result<Scene> {
     if !r.good {
-        print::bad_line(number);
+        print::bad_line(out, number)?;
     }
-    r.scene
+    Ok(r.scene)
 }
 
 // One line of the script, the number'th.
-pub fn obeyed(store: &mut [f64], line: &[u8], length: usize, number: u64, s: Scene) -> Scene {
+pub fn obeyed<W: Write>(
+    out: &mut W,
+    store: &mut [f64],
+    line: &[u8],
+    length: usize,
+    number: u64,
+    s: Scene,
+) -> io::Result<Scene> {
     if 4000 < length {
-        return told(bad(s), number);
+        return told(out, bad(s), number);
     }
     let t = next(line, length, 0);
     if size(t) == 0 {
-        return s;
+        return Ok(s);
     }
     if byte(line, t.from) == b'#' {
-        return s;
+        return Ok(s);
     }
-    told(command(store, line, length, t, s), number)
+    let r = command(out, store, line, length, t, s)?;
+    told(out, r, number)
 }

@@ -9,8 +9,9 @@ mod print;
 mod scene;
 mod text;
 
-use libc::STDIN_FILENO;
 use scene::Scene;
+use std::io;
+use std::io::{BufWriter, Read, Write};
 
 // How much of a line is read, which line it is, and whether it has begun.
 #[derive(Clone, Copy)]
@@ -79,7 +80,14 @@ fn line_end(chunk: &[u8], from: usize, to: usize) -> usize
 }
 
 // The first bytes of a chunk, each line obeyed where it ends.
-fn chunk_of(store: &mut [f64], line: &mut [u8], chunk: &[u8], got: usize, p: Play) -> Play {
+fn chunk_of<W: Write>(
+    out: &mut W,
+    store: &mut [f64],
+    line: &mut [u8],
+    chunk: &[u8],
+    got: usize,
+    p: Play,
+) -> io::Result<Play> {
     let mut c = p.cursor;
     let mut s = p.scene;
     let mut i = 0usize;
@@ -87,27 +95,28 @@ fn chunk_of(store: &mut [f64], line: &mut [u8], chunk: &[u8], got: usize, p: Pla
         let e = line_end(chunk, i, got);
         c = with_bytes(line, c, chunk, i, e);
         if got <= e {
-            return Play {
+            return Ok(Play {
                 cursor: c,
                 scene: s,
-            };
+            });
         }
         i = e + 1;
-        s = commands::obeyed(store, line, c.length, c.number, s);
+        s = commands::obeyed(out, store, line, c.length, c.number, s)?;
         c = next_line(c);
     }
-    Play {
+    Ok(Play {
         cursor: c,
         scene: s,
-    }
+    })
 }
 
-fn last_line(store: &mut [f64], line: &[u8], p: Play) {
+fn last_line<W: Write>(out: &mut W, store: &mut [f64], line: &[u8], p: Play) -> io::Result<()> {
     let c = p.cursor;
     let s = p.scene;
     if c.open {
-        commands::obeyed(store, line, c.length, c.number, s);
+        commands::obeyed(out, store, line, c.length, c.number, s)?;
     }
+    Ok(())
 }
 
 fn begun() -> Play {
@@ -122,23 +131,30 @@ fn begun() -> Play {
 }
 
 // A turn for each chunk, at most a million.
-fn run(store: &mut [f64], line: &mut [u8], chunk: &mut [u8]) {
+fn run<R: Read, W: Write>(
+    input: &mut R,
+    out: &mut W,
+    store: &mut [f64],
+    line: &mut [u8],
+    chunk: &mut [u8],
+) -> io::Result<()> {
     let mut p = begun();
-    let mut left = 1_000_000u64;
-    while 0 < left {
-        let got = io::read_full(STDIN_FILENO, chunk);
+    for _ in 0..1_000_000 {
+        let got = record_io::read_full(input, chunk)?;
         if got == 0 {
-            last_line(store, line, p);
-            return;
+            last_line(out, store, line, p)?;
+            break;
         }
-        p = chunk_of(store, line, chunk, got, p);
-        left -= 1;
+        p = chunk_of(out, store, line, chunk, got, p)?;
     }
+    out.flush()
 }
 
-fn main() {
+fn main(rt: HostRuntime) -> io::Result<()> {
+    let mut input = rt.stdin();
+    let mut out = BufWriter::new(rt.alloc(), io::writer(&rt))?;
     let mut store = [0.0f64; 285312];
     let mut line = [0u8; 4096];
-    let mut chunk = io::large_buffer();
-    run(&mut store, &mut line, &mut chunk);
+    let mut chunk = [0u8; 65536];
+    run(&mut input, &mut out, &mut store, &mut line, &mut chunk)
 }

@@ -1,32 +1,17 @@
 // What a call and the selector are written as.
 use layout::Layout;
-use libc::STDOUT_FILENO;
 use selector::{Outcome, Selector, Word};
-
-pub fn bytes(b: &[u8]) {
-    io::write_all(STDOUT_FILENO, b);
-}
-
-pub fn number(n: u64) {
-    io::print_decimal(STDOUT_FILENO, n);
-}
-
-fn one_byte(b: u8) {
-    let one = [b; 1];
-    io::write_all(STDOUT_FILENO, &one);
-}
+use std::io;
+use std::io::Write;
 
 // The bytes of a packed name.
-fn name(n: u64) {
+fn name<W: Write>(out: &mut W, n: u64) -> io::Result<()> {
     let mut rest = n;
     while rest != 0 {
-        one_byte((rest % 256) as u8);
+        out.write_all(&[(rest % 256) as u8])?;
         rest = rest / 256;
     }
-}
-
-fn bits(x: f64) {
-    io::print_hex(STDOUT_FILENO, doubles::bits_of(x), 16);
+    Ok(())
 }
 
 // A gain's millionths, rounded half up.
@@ -40,32 +25,15 @@ fn millionths(g: f64) -> u64 {
     0
 }
 
-// The second to the seventh byte.
-fn middle(text: &[u8; 20]) {
-    let v: &[u8] = text;
-    let from = 1usize;
-    let to = 7usize;
-    if to <= v.len() {
-        bytes(&v[from..to]);
-    }
-}
-
-// The last six digits of a number.
-fn six_digits(n: u64) {
-    let mut text = [0u8; 20];
-    io::decimal(1000000 + n % 1000000, &mut text);
-    middle(&text);
-}
-
 // A gain to six places.
-fn decimal(g: f64) {
+fn decimal<W: Write>(out: &mut W, g: f64) -> io::Result<()> {
     if (g >= 0.0) & (g <= 2.0) {
         let n = millionths(g);
-        number(n / 1000000);
-        bytes(b".");
-        six_digits(n);
+        let whole = n / 1000000;
+        let rest = n % 1000000;
+        write!(out, "{whole}.{rest:06}")
     } else {
-        bytes(b"-");
+        out.write_all(b"-")
     }
 }
 
@@ -77,76 +45,74 @@ fn word_at(v: &[u64], i: usize) -> u64 {
     if i < v.len() { v[i] } else { 0 }
 }
 
-fn gain(n: u64, g: f64) {
-    name(n);
-    bytes(b" ");
-    bits(g);
-    bytes(b" ");
-    decimal(g);
-    bytes(b"\n");
+fn gain<W: Write>(out: &mut W, n: u64, g: f64) -> io::Result<()> {
+    let bits = doubles::bits_of(g);
+    name(out, n)?;
+    write!(out, " {bits:016x} ")?;
+    decimal(out, g)?;
+    out.write_all(b"\n")
 }
 
 fn name_at(names: &[u64; 24], i: usize) -> u64 {
     if i < 24 { names[i] } else { 0 }
 }
 
-fn gains(names: &[u64; 24], v: &[f64], n: usize) {
-    let mut i = 0usize;
-    while i < n {
-        gain(name_at(names, i), double_at(v, i));
-        i += 1;
+fn gains<W: Write>(out: &mut W, names: &[u64; 24], v: &[f64], n: usize) -> io::Result<()> {
+    for i in 0..n {
+        gain(out, name_at(names, i), double_at(v, i))?;
     }
+    Ok(())
 }
 
 // The gains of the active channels, a line each.
-fn active_gains(l: Layout, v: &[f64], n: usize) {
+fn active_gains<W: Write>(out: &mut W, l: Layout, v: &[f64], n: usize) -> io::Result<()> {
     let mut names = [0u64; 24];
     channels::active_names(l, &mut names);
-    gains(&names, v, n);
+    gains(out, &names, v, n)
 }
 
-fn slot(i: u64, x: f64) {
+fn slot<W: Write>(out: &mut W, i: usize, x: f64) -> io::Result<()> {
     if x != 7.0 {
-        bytes(b"slot ");
-        number(i);
-        bytes(b" ");
-        bits(x);
-        bytes(b"\n");
+        let bits = doubles::bits_of(x);
+        writeln!(out, "slot {i} {bits:016x}")?;
     }
+    Ok(())
 }
 
 // Slots from `from` to `to` that do not hold 7.
-fn slots(v: &[f64], from: usize, to: usize) {
-    let mut i = from;
-    while i < to {
-        slot(i as u64, double_at(v, i));
-        i += 1;
+fn slots<W: Write>(out: &mut W, v: &[f64], from: usize, to: usize) -> io::Result<()> {
+    for i in from..to {
+        slot(out, i, double_at(v, i))?;
     }
+    Ok(())
 }
 
-fn word(w: Word) {
+fn word<W: Write>(out: &mut W, w: Word) -> io::Result<()> {
     match w {
-        Word::Unused => bytes(b"unused "),
-        Word::Kept => bytes(b"kept "),
-        Word::Built => bytes(b"built "),
+        Word::Unused => out.write_all(b"unused "),
+        Word::Kept => out.write_all(b"kept "),
+        Word::Built => out.write_all(b"built "),
     }
 }
 
 // What a call answered.
-pub fn outcome(o: Outcome, l: Layout, v: &[f64], lent: usize) {
+pub fn outcome<W: Write>(
+    out: &mut W,
+    o: Outcome,
+    l: Layout,
+    v: &[f64],
+    lent: usize,
+) -> io::Result<()> {
     match o {
         Outcome::Refused(q) => {
-            bytes(b"refused ");
-            number(q);
-            bytes(b"\n");
-            slots(v, 0, lent);
+            writeln!(out, "refused {q}")?;
+            slots(out, v, 0, lent)
         }
         Outcome::Gains(n, w) => {
-            word(w);
-            number(n as u64);
-            bytes(b"\n");
-            active_gains(l, v, n);
-            slots(v, n, lent);
+            word(out, w)?;
+            writeln!(out, "{n}")?;
+            active_gains(out, l, v, n)?;
+            slots(out, v, n, lent)
         }
     }
 }
@@ -169,45 +135,37 @@ fn hash(store: &[f64], count: usize) -> u64 {
 }
 
 // The epoch of the key in a place.
-fn epoch(words: &[u64], p: usize) {
-    bytes(b" ");
-    number(word_at(words, p % 8 * 156 + 154));
+fn epoch<W: Write>(out: &mut W, words: &[u64], p: usize) -> io::Result<()> {
+    let n = word_at(words, p % 8 * 156 + 154);
+    write!(out, " {n}")
 }
 
 // The epochs of the keys from the oldest on.
-fn epochs(words: &[u64], count: usize, oldest: usize) {
-    let mut i = 0usize;
-    while i < count {
-        epoch(words, oldest % 8 + i % 8);
-        i += 1;
+fn epochs<W: Write>(out: &mut W, words: &[u64], count: usize, oldest: usize) -> io::Result<()> {
+    for i in 0..count {
+        epoch(out, words, oldest % 8 + i % 8)?;
     }
+    Ok(())
 }
 
-fn keys(s: Selector) {
+fn keys<W: Write>(out: &mut W, s: Selector) -> io::Result<()> {
     let count = s.count;
     let oldest = s.oldest;
     let keys = s.keys;
-    bytes(b"keys ");
-    number(count as u64);
-    bytes(b" ");
-    number(oldest as u64);
+    write!(out, "keys {count} {oldest}")?;
     if (count <= 8) & (oldest <= 7) {
-        epochs(&keys, count, oldest);
+        epochs(out, &keys, count, oldest)?;
     }
+    Ok(())
 }
 
 // The selector and the store.
-pub fn shown(s: Selector, store: &[f64], size: usize) {
-    keys(s);
-    bytes(b"\nstore ");
-    number(size as u64);
-    bytes(b" ");
-    number(hash(store, size));
-    bytes(b"\n");
+pub fn shown<W: Write>(out: &mut W, s: Selector, store: &[f64], size: usize) -> io::Result<()> {
+    let h = hash(store, size);
+    keys(out, s)?;
+    writeln!(out, "\nstore {size} {h}")
 }
 
-pub fn bad_line(n: u64) {
-    bytes(b"line ");
-    number(n);
-    bytes(b": bad\n");
+pub fn bad_line<W: Write>(out: &mut W, n: u64) -> io::Result<()> {
+    writeln!(out, "line {n}: bad")
 }

@@ -5,6 +5,8 @@ use crate::print;
 use extent::Extent;
 use layout::{Centre, Layout};
 use selector::{Selector, SelectorReply};
+use std::io;
+use std::io::Write;
 
 // What later calls bring. `rowed`: the last layer has a row.
 #[derive(Clone, Copy)]
@@ -115,25 +117,30 @@ fn with_store(s: Scene, store: &mut [f64], given: &[f64], space: &mut [f64]) -> 
     with_points(s, &mut store[..n], given, space)
 }
 
-fn called_and_told(s: Scene, store: &mut [f64], space: &mut [f64]) -> Step {
+fn called_and_told<W: Write>(
+    out: &mut W,
+    s: Scene,
+    store: &mut [f64],
+    space: &mut [f64],
+) -> io::Result<Step> {
     let given = s.points;
     let reply = with_store(s, store, &given, space);
     let o = reply.outcome;
     let k = reply.selector;
     let l = s.layout;
-    print::outcome(o, l, space, s.slots);
-    with_selector(s, k)
+    print::outcome(out, o, l, space, s.slots)?;
+    Ok(with_selector(s, k))
 }
 
-pub fn gains(s: Scene, store: &mut [f64]) -> Step {
+pub fn gains<W: Write>(out: &mut W, s: Scene, store: &mut [f64]) -> io::Result<Step> {
     let mut space = [7.0f64; 32];
-    called_and_told(s, store, &mut space)
+    called_and_told(out, s, store, &mut space)
 }
 
-pub fn show(s: Scene, store: &mut [f64]) -> Step {
+pub fn show<W: Write>(out: &mut W, s: Scene, store: &[f64]) -> io::Result<Step> {
     let k = s.selector;
-    print::shown(k, store, s.size);
-    good(s)
+    print::shown(out, k, store, s.size)?;
+    Ok(good(s))
 }
 
 pub fn fill(store: &mut [f64], x: f64) {

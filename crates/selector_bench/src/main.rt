@@ -11,8 +11,9 @@
 
 use extent::Extent;
 use layout::{Anchor, Centre, Channel, Layout};
-use libc::{STDIN_FILENO, STDOUT_FILENO};
 use selector::Ring;
+use std::io;
+use std::io::{BufReader, BufWriter, Read, Write};
 
 // Three digits, a space, 16 digits and a line feed.
 const LINE: usize = 21;
@@ -96,7 +97,14 @@ fn epoch_of(built: bool, turn: u64) -> u64 {
     if built { turn } else { 7 }
 }
 
-fn turns(store: &mut [f64], points: &[f64], l: Layout, flags: [bool; 6], built: bool, count: u64) {
+fn turns(
+    store: &mut [f64],
+    points: &[f64],
+    l: Layout,
+    flags: [bool; 6],
+    built: bool,
+    count: u64,
+) -> Ring {
     let mut words = [0u64; 1248];
     let mut space = [0.0f64; 24];
     let gains: &mut [f64] = &mut space;
@@ -119,68 +127,78 @@ fn turns(store: &mut [f64], points: &[f64], l: Layout, flags: [bool; 6], built: 
         );
         left -= 1;
     }
-    io::print_decimal(STDOUT_FILENO, r.count as u64);
-    io::write_all(STDOUT_FILENO, b"\n");
+    r
 }
 
 // As many point gains as there are active channels.
-fn call_often(store: &mut [f64], l: Layout, flags: [bool; 6], built: bool, count: u64) {
+fn call_often<W: Write>(
+    out: &mut W,
+    store: &mut [f64],
+    l: Layout,
+    flags: [bool; 6],
+    built: bool,
+    count: u64,
+) -> io::Result<()> {
     let space = [0.3f64; 24];
     let points: &[f64] = &space;
     let n = channels::active_count(l);
-    if n <= points.len() {
-        turns(store, &points[..n], l, flags, built, count);
+    if points.len() < n {
+        return Ok(());
     }
+    let r = turns(store, &points[..n], l, flags, built, count);
+    let held = r.count;
+    writeln!(out, "{held}")
 }
 
 // One command.
-fn step(store: &mut [f64], b: Room, k: u64, v: u64) -> Room {
+fn step<W: Write>(out: &mut W, store: &mut [f64], b: Room, k: u64, v: u64) -> io::Result<Room> {
     let l = b.layout;
     let flags = b.flags;
     if k == 901 {
-        return Room {
+        return Ok(Room {
             layout: l,
             name: v,
             flags: flags,
-        };
+        });
     }
     if k < 910 {
-        return Room {
+        return Ok(Room {
             layout: add(l, k, b.name, v),
             name: b.name,
             flags: flags,
-        };
+        });
     }
     if k == 950 {
-        return Room {
+        return Ok(Room {
             layout: l,
             name: b.name,
             flags: flags_of(v),
-        };
+        });
     }
-    call_often(store, l, flags, k == 952, v);
-    b
+    call_often(out, store, l, flags, k == 952, v)?;
+    Ok(b)
 }
 
 // A turn for each line, at most a million.
-fn run(store: &mut [f64]) {
+fn run<R: Read, W: Write>(input: &mut R, out: &mut W, store: &mut [f64]) -> io::Result<()> {
     let mut b = Room {
         layout: Layout::new(),
         name: 0,
         flags: [true; 6],
     };
-    let mut left = 1_000_000u64;
-    while 0 < left {
+    for _ in 0..1_000_000 {
         let mut line = [0u8; 21];
-        if io::read_full(STDIN_FILENO, &mut line) < LINE {
-            return;
+        if record_io::read_full(input, &mut line)? < LINE {
+            break;
         }
-        b = step(store, b, replay::three(&line), replay::hex(&line, 4));
-        left -= 1;
+        b = step(out, store, b, replay::three(&line), replay::hex(&line, 4))?;
     }
+    out.flush()
 }
 
-fn main() {
+fn main(rt: HostRuntime) -> io::Result<()> {
+    let mut input = BufReader::new(rt.alloc(), rt.stdin())?;
+    let mut out = BufWriter::new(rt.alloc(), io::writer(&rt))?;
     let mut store = [0.0f64; 285312];
-    run(&mut store);
+    run(&mut input, &mut out, &mut store)
 }
