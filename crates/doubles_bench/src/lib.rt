@@ -5,8 +5,10 @@
 #[unsafe(no_mangle)]
 pub extern "C" fn rug_sum_floor(v: &[f64]) -> f64 {
     let mut sum = 0.0;
-    for x in v {
-        sum = sum + doubles::floor(*x);
+    let mut i = 0usize;
+    while i < v.len() {
+        sum = sum + doubles::floor(v[i]);
+        i += 1;
     }
     sum
 }
@@ -15,8 +17,10 @@ pub extern "C" fn rug_sum_floor(v: &[f64]) -> f64 {
 #[unsafe(no_mangle)]
 pub extern "C" fn rug_sum_sqrt(v: &[f64]) -> f64 {
     let mut sum = 0.0;
-    for x in v {
-        sum = sum + doubles::sqrt(*x);
+    let mut i = 0usize;
+    while i < v.len() {
+        sum = sum + doubles::sqrt(v[i]);
+        i += 1;
     }
     sum
 }
@@ -25,8 +29,10 @@ pub extern "C" fn rug_sum_sqrt(v: &[f64]) -> f64 {
 #[unsafe(no_mangle)]
 pub extern "C" fn rug_sum_exp2(v: &[f64]) -> f64 {
     let mut sum = 0.0;
-    for x in v {
-        sum = sum + approximations::approx_exp2(*x);
+    let mut i = 0usize;
+    while i < v.len() {
+        sum = sum + approximations::approx_exp2(v[i]);
+        i += 1;
     }
     sum
 }
@@ -35,8 +41,10 @@ pub extern "C" fn rug_sum_exp2(v: &[f64]) -> f64 {
 #[unsafe(no_mangle)]
 pub extern "C" fn rug_sum_log2(v: &[f64]) -> f64 {
     let mut sum = 0.0;
-    for x in v {
-        sum = sum + approximations::approx_log2(*x);
+    let mut i = 0usize;
+    while i < v.len() {
+        sum = sum + approximations::approx_log2(v[i]);
+        i += 1;
     }
     sum
 }
@@ -45,8 +53,10 @@ pub extern "C" fn rug_sum_log2(v: &[f64]) -> f64 {
 #[unsafe(no_mangle)]
 pub extern "C" fn rug_chain_sqrt(v: &[f64]) -> f64 {
     let mut y = 0.0;
-    for x in v {
-        y = doubles::sqrt(*x + y);
+    let mut i = 0usize;
+    while i < v.len() {
+        y = doubles::sqrt(v[i] + y);
+        i += 1;
     }
     y
 }

@@ -1,4 +1,4 @@
--- How many places the arrays of a layout have: what owning a layout tells, `search (needs, long)`.
+-- How many places the arrays of a layout have: what owning a layout tells, `search (rules, long)`.
 use Prim.Native.Nat.{ℕ, ◌≤◌}
 use mathlib.Core.Path.{◌≡◌}
 use mathlib.Core.List.{List, map}

@@ -104,7 +104,7 @@ module _ (z : ℤ) (lo : T (le_z (negsuc 1021) z)) (hi : T (le_z z (pos 1022))) 
       at (pos q) lo hi = let h = leb→le q 1022 hi in (positive_back binary64 31 q (unfold in_float in le→leb q (2 ^ 53) (omega arith)) (omega arith)).1
       at (negsuc k) lo hi = let h = leb→le k 1021 lo in (negative_back binary64 31 k (unfold in_float in lt→ltb k (2 ^ 53) (omega arith)) (omega arith)).1
 
--- ---- the need and the answer of `power_near`
+-- ---- the goals of `power_near`
 abbrev pattern : Float → ℕ
 pattern n = to_bits binary64 (add binary64 n bias) * 2 ^ 52 % 2 ^ 64
 

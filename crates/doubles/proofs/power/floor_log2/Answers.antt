@@ -1,4 +1,4 @@
--- `doubles::power::floor_log2` meets its contract: each need is a fact of `proofs/Logarithms.antt`. Assumes nothing.
+-- `doubles::power::floor_log2` meets its contract: each goal is a fact of `proofs/Logarithms.antt`. Assumes nothing.
 use Rattle.std.proofs.Common.{not, T, sym, subst, lt_of_lt_of_le, lt_of_le_of_lt, lit<, lit≤}
 use lib.Count.{leading_le}
 use lib.Ieee.{is_nan}

@@ -1,4 +1,4 @@
--- `doubles::power::pow2` meets its contract: each need is a fact of `proofs/PowersOfTwo.antt`. Assumes nothing.
+-- `doubles::power::pow2` meets its contract: each goal is a fact of `proofs/PowersOfTwo.antt`. Assumes nothing.
 use Rattle.std.proofs.Common.{ℕ, ◌<◌, sym, subst, lt_of_lt_of_le, lit≤}
 use lib.Ieee.{of_bits, nan_bits}
 use Rattle.doubles.proofs.PowersOfTwo.{Middle, Low, middle, low, middle-placed, low-placed, top, bottom}

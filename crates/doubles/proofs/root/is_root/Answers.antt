@@ -1,4 +1,4 @@
--- `doubles::root::is_root` meets its contract: each need is a fact of `proofs/root/Tested.antt`. Assumes nothing.
+-- `doubles::root::is_root` meets its contract: each goal is a fact of `proofs/root/Tested.antt`. Assumes nothing.
 use Rattle.std.proofs.Common.{◌+◌, ◌≤◌, arith}
 use Rattle.doubles.proofs.root.Tested.{hi, upper-square, lower-square, cross-lt, hi-lt, lo-lt, close, rest_le, tested}
 use Rattle.doubles.proofs.root.is_root.Goals as goal

@@ -1,4 +1,4 @@
--- `doubles::root::is_rounded` meets its contract: each need is a fact of `proofs/root/Tested.antt`. Assumes nothing.
+-- `doubles::root::is_rounded` meets its contract: each goal is a fact of `proofs/root/Tested.antt`. Assumes nothing.
 use Rattle.std.proofs.Common.{T, sym, subst}
 use lib.Ieee.{binary64, of_bits, to_bits}
 use Rattle.doubles.proofs.Floors.{yes}

@@ -1,4 +1,4 @@
--- `doubles::root::rounded` meets its contract: each need is a fact of `proofs/root/Nearest.antt`. Assumes nothing.
+-- `doubles::root::rounded` meets its contract: each goal is a fact of `proofs/root/Nearest.antt`. Assumes nothing.
 use Rattle.std.proofs.Common.{arith}
 use Rattle.doubles.proofs.root.Nearest.{shift-lt, root-asks, q-lt, no_nan, near}
 use Rattle.doubles.proofs.root.rounded.Goals as goal

@@ -1,4 +1,4 @@
--- `doubles::sqrt` meets its contract: each need is a fact of `proofs/Squares.antt`. Assumes nothing.
+-- `doubles::sqrt` meets its contract: each goal is a fact of `proofs/Squares.antt`. Assumes nothing.
 use Rattle.std.proofs.Common.{false, not, T, sym, ◌∙◌, subst, T_not}
 use lib.Ieee.{Float, inf, binary64, lt, of_bits}
 use lib.Ieee.Scale.{finite}

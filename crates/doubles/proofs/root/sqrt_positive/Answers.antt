@@ -1,4 +1,4 @@
--- `doubles::root::sqrt_positive` meets its contract: each need is a fact of `proofs/Squares.antt`. Assumes nothing.
+-- `doubles::root::sqrt_positive` meets its contract: each goal is a fact of `proofs/Squares.antt`. Assumes nothing.
 use Rattle.std.proofs.Common.{◌≡◌, ℕ, ◌+◌, ◌*◌, ◌/◌, ◌^◌, ◌≤◌, T, sym, ap, ◌∙◌, subst, lt_of_lt_of_le, lt_of_le_of_lt, arith, lit<, lit≤}
 use lib.Count.{count_leading_zeros, leading_le}
 use lib.Ieee.{Float, binary64, fits, to_bits}

@@ -1,4 +1,4 @@
--- `doubles::whole::floor_any` meets its contract. Each need is a fact of `proofs/Floors.antt`, once the constants' bit patterns are read. Assumes nothing.
+-- `doubles::whole::floor_any` meets its contract. Each goal is a fact of `proofs/Floors.antt`, once the constants' bit patterns are read. Assumes nothing.
 use Rattle.std.proofs.Common.{ℕ, ◌+◌, ◌^◌, ◌<◌, ◌≤◌, not, T, pos, sym, ap, ◌∙◌, subst, le_of_lt, arith}
 use lib.Ieee.{binary64, lt, neg, of_bits, of_int}
 use Rattle.doubles.proofs.Floors.{yes, no, asks, whole-lt, casts, floor-above, turn, floor-below-more, floor-below-same, high, deep, neither}
