@@ -7,10 +7,10 @@ use Rattle.approximations.specs.Powers.{map_first, each}
 
 module _ (f : Float → Float) where
   -- before a turn, the next one is as it was
-  pub first-at : (i : ℕ) (xs : List Float) (d : Float) → i < length xs → get_or (map_first i f xs) i d ≡ get_or xs i d
-  first-at i [] d h = absurd (not-suc-le-zero h)
-  first-at zero (x ∷ xs) d h = refl
-  first-at (suc i) (x ∷ xs) d h = first-at i xs d (le_of_suc-le-suc h)
+  pub first_at : (i : ℕ) (xs : List Float) (d : Float) → i < length xs → get_or (map_first i f xs) i d ≡ get_or xs i d
+  first_at i [] d h = absurd (not-suc-le-zero h)
+  first_at zero (x ∷ xs) d h = refl
+  first_at (suc i) (x ∷ xs) d h = first_at i xs d (le_of_suc-le-suc h)
 
   -- a turn maps one more
   first_next : (i : ℕ) (xs : List Float) (d : Float) → i < length xs → set (map_first i f xs) i (f (get_or xs i d)) ≡ map_first (suc i) f xs
@@ -22,21 +22,21 @@ module _ (f : Float → Float) where
   first_more i xs d h = rw add-one (first_next i xs d h)
 
   -- of as many as there are, or more
-  pub first-all : (n m : ℕ) (xs : List Float) → length xs ≤ n → length xs ≤ m → map_first n f xs ≡ map_first m f xs
-  first-all n m [] h k = none n ∙ sym (none m)
+  pub first_all : (n m : ℕ) (xs : List Float) → length xs ≤ n → length xs ≤ m → map_first n f xs ≡ map_first m f xs
+  first_all n m [] h k = none n ∙ sym (none m)
     where
       none : (j : ℕ) → map_first j f [] ≡ []
       none zero = refl
       none (suc j) = refl
-  first-all zero m (x ∷ xs) h k = absurd (not-suc-le-zero h)
-  first-all (suc n) zero (x ∷ xs) h k = absurd (not-suc-le-zero k)
-  first-all (suc n) (suc m) (x ∷ xs) h k = ap (λ (l : List Float). f x ∷ l) (first-all n m xs (le_of_suc-le-suc h) (le_of_suc-le-suc k))
+  first_all zero m (x ∷ xs) h k = absurd (not-suc-le-zero h)
+  first_all (suc n) zero (x ∷ xs) h k = absurd (not-suc-le-zero k)
+  first_all (suc n) (suc m) (x ∷ xs) h k = ap (λ (l : List Float). f x ∷ l) (first_all n m xs (le_of_suc-le-suc h) (le_of_suc-le-suc k))
 
 -- one function after another
-pub first-twice : (f g : Float → Float) (n : ℕ) (xs : List Float) → map_first n g (map_first n f xs) ≡ map_first n (λ (v : Float). g (f v)) xs
-first-twice f g zero xs = refl
-first-twice f g (suc n) [] = refl
-first-twice f g (suc n) (x ∷ xs) = ap (λ (l : List Float). g (f x) ∷ l) (first-twice f g n xs)
+pub first_twice : (f g : Float → Float) (n : ℕ) (xs : List Float) → map_first n g (map_first n f xs) ≡ map_first n (λ (v : Float). g (f v)) xs
+first_twice f g zero xs = refl
+first_twice f g (suc n) [] = refl
+first_twice f g (suc n) (x ∷ xs) = ap (λ (l : List Float). g (f x) ∷ l) (first_twice f g n xs)
 
 -- what each of the first n passes, one of them does
 pub each_at : (p : Float → Bool) (n i : ℕ) (xs : List Float) (d : Float) → T (each p (take n xs)) → i < n → i < length xs → T (p (get_or xs i d))
@@ -53,8 +53,8 @@ each_more p b i n xs d h k = rw (add-one, slice-cons i n xs d h k) (regroup b (p
     regroup true y z = refl
     regroup false y z = refl
 
-pub each-done : (p : Float → Bool) (b : Bool) (i n : ℕ) (xs : List Float) → i ≡ n → (b && each p (slice i n xs)) ≡ b
-each-done p b i n xs e = rw (e, slice_empty n xs) (last b)
+pub each_done : (p : Float → Bool) (b : Bool) (i n : ℕ) (xs : List Float) → i ≡ n → (b && each p (slice i n xs)) ≡ b
+each_done p b i n xs e = rw (e, slice_empty n xs) (last b)
   where
     last : (x : Bool) → (x && true) ≡ x
     last true = refl
@@ -67,8 +67,8 @@ first_taken f (suc n) [] = refl
 first_taken f (suc n) (x ∷ xs) = ap (λ (l : List Float). f x ∷ l) (first_taken f n xs)
 
 -- one of the first n is mapped
-pub first-mapped : (f : Float → Float) (n i : ℕ) (xs : List Float) (d : Float) → i < n → i < length xs → get_or (map_first n f xs) i d ≡ f (get_or xs i d)
-first-mapped f n i [] d h k = absurd (not-suc-le-zero k)
-first-mapped f zero i (x ∷ xs) d h k = absurd (not-suc-le-zero h)
-first-mapped f (suc n) zero (x ∷ xs) d h k = refl
-first-mapped f (suc n) (suc i) (x ∷ xs) d h k = first-mapped f n i xs d (le_of_suc-le-suc h) (le_of_suc-le-suc k)
+pub first_mapped : (f : Float → Float) (n i : ℕ) (xs : List Float) (d : Float) → i < n → i < length xs → get_or (map_first n f xs) i d ≡ f (get_or xs i d)
+first_mapped f n i [] d h k = absurd (not-suc-le-zero k)
+first_mapped f zero i (x ∷ xs) d h k = absurd (not-suc-le-zero h)
+first_mapped f (suc n) zero (x ∷ xs) d h k = refl
+first_mapped f (suc n) (suc i) (x ∷ xs) d h k = first_mapped f n i xs d (le_of_suc-le-suc h) (le_of_suc-le-suc k)

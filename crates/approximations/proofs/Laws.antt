@@ -12,21 +12,21 @@ use Rattle.approximations.proofs.exp2.Sign as exponential
 -- ---- sine and cosine
 
 -- of a from 0 to H they are finite and from 0 to 1
-pub sine-range : (a : Float) → T (fits binary64 a) → T (le zero64 a) → T (le a H) → T (finite (sine_of a)) × T (le zero64 (sine_of a)) × T (le (sine_of a) one64)
-sine-range a h lo hi = circular.sine-range a h lo hi
+pub sine_range : (a : Float) → T (fits binary64 a) → T (le zero64 a) → T (le a H) → T (finite (sine_of a)) × T (le zero64 (sine_of a)) × T (le (sine_of a) one64)
+sine_range a h lo hi = circular.sine_range a h lo hi
 
-pub cosine-range : (a : Float) → T (fits binary64 a) → T (le zero64 a) → T (le a H) → T (finite (cosine_of a)) × T (le zero64 (cosine_of a)) × T (le (cosine_of a) one64)
-cosine-range a h lo hi = circular.cosine-range a h lo hi
+pub cosine_range : (a : Float) → T (fits binary64 a) → T (le zero64 a) → T (le a H) → T (finite (cosine_of a)) × T (le zero64 (cosine_of a)) × T (le (cosine_of a) one64)
+cosine_range a h lo hi = circular.cosine_range a h lo hi
 
 -- ---- `approx_exp2`
 
 -- it is never negative, and always finite
-pub exp2-clear : (v : Float) → T (fits binary64 v) → T (clear (exp2_of v))
-exp2-clear v h = exponential.exp2-clear v h
+pub exp2_clear : (v : Float) → T (fits binary64 v) → T (clear (exp2_of v))
+exp2_clear v h = exponential.exp2_clear v h
 
-pub exp2-finite : (v : Float) → T (finite (exp2_of v))
-exp2-finite v = exponential.exp2-finite v
+pub exp2_finite : (v : Float) → T (finite (exp2_of v))
+exp2_finite v = exponential.exp2_finite v
 
 -- where it is not above 0, it is 0
-pub exp2-zero : (v : Float) → T (fits binary64 v) → T (not (lt zero64 (exp2_of v))) → exp2_of v ≡ zero64
-exp2-zero v h l = exponential.exp2-zero v h l
+pub exp2_zero : (v : Float) → T (fits binary64 v) → T (not (lt zero64 (exp2_of v))) → exp2_of v ≡ zero64
+exp2_zero v h l = exponential.exp2_zero v h l

@@ -7,11 +7,11 @@ use lib.Ieee.Scale.{finite}
 use Rattle.doubles.specs.Arithmetic.{◌⊖◌, ◌⊗◌, one64}
 use Rattle.doubles.specs.Arithmetic as arithmetic
 use Rattle.approximations.specs.Circular.{odd_factorials, even_factorials, inverse, series, sine_series, cosine_series, H, half_h, L, complement_of, sine_of, cosine_of}
-use Rattle.doubles.proofs.Magnitude.{mag, plain, plain-finite}
-use Rattle.doubles.proofs.Order.{mag-mono, mag-le}
-use Rattle.doubles.proofs.Interpolation.{one-fits, is_zero}
-use Rattle.doubles.proofs.Differences.{UpTo, up-to-self, up-to-more, mul-up-to, sub-up-to, rest-up-to, add-up-to}
-use Rattle.doubles.proofs.Bound.{zero-le-plain}
+use Rattle.doubles.proofs.Magnitude.{mag, plain, plain_finite}
+use Rattle.doubles.proofs.Order.{mag_mono, mag_le}
+use Rattle.doubles.proofs.Interpolation.{one_fits, is_zero}
+use Rattle.doubles.proofs.Differences.{UpTo, up_to_self, up_to_more, mul_up_to, sub_up_to, rest_up_to, add_up_to}
+use Rattle.doubles.proofs.Bound.{zero_le_plain}
 use Rattle.doubles.proofs.AddZero.{zero_is}
 
 -- ---- the series: up to its first coefficient
@@ -24,63 +24,63 @@ pub head_plain : (k : ℕ) (ks : List ℕ) → T (falling (k ∷ ks)) → T (pla
 head_plain k [] t = t
 head_plain k (j ∷ ks) t = and_l (plain (inverse k)) (le (inverse j) (inverse k)) (and_l (plain (inverse k) && le (inverse j) (inverse k)) (falling (j ∷ ks)) t)
 
-next-less : (k j : ℕ) (ks : List ℕ) → T (falling (k ∷ j ∷ ks)) → T (le (inverse j) (inverse k))
-next-less k j ks t = and_r (plain (inverse k)) (le (inverse j) (inverse k)) (and_l (plain (inverse k) && le (inverse j) (inverse k)) (falling (j ∷ ks)) t)
+next_less : (k j : ℕ) (ks : List ℕ) → T (falling (k ∷ j ∷ ks)) → T (le (inverse j) (inverse k))
+next_less k j ks t = and_r (plain (inverse k)) (le (inverse j) (inverse k)) (and_l (plain (inverse k) && le (inverse j) (inverse k)) (falling (j ∷ ks)) t)
 
-pub tail-falling : (k j : ℕ) (ks : List ℕ) → T (falling (k ∷ j ∷ ks)) → T (falling (j ∷ ks))
-tail-falling k j ks t = and_r (plain (inverse k) && le (inverse j) (inverse k)) (falling (j ∷ ks)) t
+pub tail_falling : (k j : ℕ) (ks : List ℕ) → T (falling (k ∷ j ∷ ks)) → T (falling (j ∷ ks))
+tail_falling k j ks t = and_r (plain (inverse k) && le (inverse j) (inverse k)) (falling (j ∷ ks)) t
 
-pub inverse-fits : (k : ℕ) → T (fits binary64 (inverse k))
-inverse-fits k = div-fits binary64 one64 (of_int binary64 (pos k))
+pub inverse_fits : (k : ℕ) → T (fits binary64 (inverse k))
+inverse_fits k = div-fits binary64 one64 (of_int binary64 (pos k))
 
 -- what a step takes off
-taken-off : (y t : Float) (k j : ℕ) (ks : List ℕ) → T (falling (k ∷ j ∷ ks)) → UpTo binary64 one64 y → UpTo binary64 (inverse j) t → UpTo binary64 (inverse k) (y ⊗ t)
-taken-off y t k j ks w u v =
+taken_off : (y t : Float) (k j : ℕ) (ks : List ℕ) → T (falling (k ∷ j ∷ ks)) → UpTo binary64 one64 y → UpTo binary64 (inverse j) t → UpTo binary64 (inverse k) (y ⊗ t)
+taken_off y t k j ks w u v =
     let p = head_plain k (j ∷ ks) w in
-    mul-up-to binary64 (inverse k) y t (inverse-fits k) p u (up-to-more binary64 (inverse j) (inverse k) t (inverse-fits j) (inverse-fits k) (head_plain j ks (tail-falling k j ks w)) p (next-less k j ks w) v)
+    mul_up_to binary64 (inverse k) y t (inverse_fits k) p u (up_to_more binary64 (inverse j) (inverse k) t (inverse_fits j) (inverse_fits k) (head_plain j ks (tail_falling k j ks w)) p (next_less k j ks w) v)
 
-pub series-up-to : (y : Float) (k : ℕ) (ks : List ℕ) → T (falling (k ∷ ks)) → UpTo binary64 one64 y → UpTo binary64 (inverse k) (series y (k ∷ ks))
+pub series_up_to : (y : Float) (k : ℕ) (ks : List ℕ) → T (falling (k ∷ ks)) → UpTo binary64 one64 y → UpTo binary64 (inverse k) (series y (k ∷ ks))
 unfolding series
-series-up-to y k [] t u = up-to-self binary64 (inverse k) (inverse-fits k) t
-series-up-to y k (j ∷ ks) t u =
-    rest-up-to binary64 (inverse k) (y ⊗ series y (j ∷ ks)) (inverse-fits k) (head_plain k (j ∷ ks) t) (taken-off y (series y (j ∷ ks)) k j ks t u (series-up-to y j ks (tail-falling k j ks t) u))
+series_up_to y k [] t u = up_to_self binary64 (inverse k) (inverse_fits k) t
+series_up_to y k (j ∷ ks) t u =
+    rest_up_to binary64 (inverse k) (y ⊗ series y (j ∷ ks)) (inverse_fits k) (head_plain k (j ∷ ks) t) (taken_off y (series y (j ∷ ks)) k j ks t u (series_up_to y j ks (tail_falling k j ks t) u))
 
-pub product-up-to : (y : Float) (k j : ℕ) (ks : List ℕ) → T (falling (k ∷ j ∷ ks)) → UpTo binary64 one64 y → UpTo binary64 (inverse k) (y ⊗ series y (j ∷ ks))
-product-up-to y k j ks t u = taken-off y (series y (j ∷ ks)) k j ks t u (series-up-to y j ks (tail-falling k j ks t) u)
+pub product_up_to : (y : Float) (k j : ℕ) (ks : List ℕ) → T (falling (k ∷ j ∷ ks)) → UpTo binary64 one64 y → UpTo binary64 (inverse k) (y ⊗ series y (j ∷ ks))
+product_up_to y k j ks t u = taken_off y (series y (j ∷ ks)) k j ks t u (series_up_to y j ks (tail_falling k j ks t) u)
 
 -- the two lists, whose first coefficient is 1
-pub odd-falling : T (falling odd_factorials)
+pub odd_falling : T (falling odd_factorials)
 unfolding div of_int round le
-odd-falling = tt
+odd_falling = tt
 
-pub even-falling : T (falling even_factorials)
+pub even_falling : T (falling even_factorials)
 unfolding div of_int round le
-even-falling = tt
+even_falling = tt
 
 first : inverse 1 ≡ one64
 unfolding div of_int round
 first = refl
 
-square-up-to : (b : Float) → UpTo binary64 one64 b → UpTo binary64 one64 (b ⊗ b)
-square-up-to b u = mul-up-to binary64 one64 b b (one-fits binary64) tt u u
+square_up_to : (b : Float) → UpTo binary64 one64 b → UpTo binary64 one64 (b ⊗ b)
+square_up_to b u = mul_up_to binary64 one64 b b (one_fits binary64) tt u u
 
-pub series-to-one : (ks : List ℕ) (b : Float) → T (falling (1 ∷ ks)) → UpTo binary64 one64 b → UpTo binary64 one64 (series (b ⊗ b) (1 ∷ ks))
-series-to-one ks b t u = subst (λ (c : Float). UpTo binary64 c (series (b ⊗ b) (1 ∷ ks))) first (series-up-to (b ⊗ b) 1 ks t (square-up-to b u))
+pub series_to_one : (ks : List ℕ) (b : Float) → T (falling (1 ∷ ks)) → UpTo binary64 one64 b → UpTo binary64 one64 (series (b ⊗ b) (1 ∷ ks))
+series_to_one ks b t u = subst (λ (c : Float). UpTo binary64 c (series (b ⊗ b) (1 ∷ ks))) first (series_up_to (b ⊗ b) 1 ks t (square_up_to b u))
 
-pub sine-up-to : (b : Float) → UpTo binary64 one64 b → UpTo binary64 one64 (sine_series b)
+pub sine_up_to : (b : Float) → UpTo binary64 one64 b → UpTo binary64 one64 (sine_series b)
 unfolding sine_series
-sine-up-to b u = mul-up-to binary64 one64 b (series (b ⊗ b) odd_factorials) (one-fits binary64) tt u (series-to-one (drop 1 odd_factorials) b odd-falling u)
+sine_up_to b u = mul_up_to binary64 one64 b (series (b ⊗ b) odd_factorials) (one_fits binary64) tt u (series_to_one (drop 1 odd_factorials) b odd_falling u)
 
-pub cosine-up-to : (b : Float) → UpTo binary64 one64 b → UpTo binary64 one64 (cosine_series b)
+pub cosine_up_to : (b : Float) → UpTo binary64 one64 b → UpTo binary64 one64 (cosine_series b)
 unfolding cosine_series
-cosine-up-to b u = series-to-one (drop 1 even_factorials) b even-falling u
+cosine_up_to b u = series_to_one (drop 1 even_factorials) b even_falling u
 
 -- ---- H, its half, and L
 pub H-fits : T (fits binary64 H)
 H-fits = round-fits binary64 false _ _
 
-half_h-fits : T (fits binary64 half_h)
-half_h-fits = div-fits binary64 H (of_int binary64 (pos 2))
+half_h_fits : T (fits binary64 half_h)
+half_h_fits = div-fits binary64 H (of_int binary64 (pos 2))
 
 pub L-fits : T (fits binary64 L)
 unfolding fits of_bits
@@ -90,9 +90,9 @@ pub H-plain : T (plain H)
 unfolding round
 H-plain = tt
 
-half_h-plain : T (plain half_h)
+half_h_plain : T (plain half_h)
 unfolding round div of_int
-half_h-plain = tt
+half_h_plain = tt
 
 pub L-plain : T (plain L)
 unfolding of_bits
@@ -106,73 +106,73 @@ H-two-halves = lit≤ tt
 abbrev pub largest_argument : Float
 largest_argument = fin false 51 (negsuc 5)
 
-pub largest-fits : T (fits binary64 largest_argument)
+pub largest_fits : T (fits binary64 largest_argument)
 unfolding fits
-largest-fits = tt
+largest_fits = tt
 
-largest-to-one : T (le largest_argument one64)
+largest_to_one : T (le largest_argument one64)
 unfolding le
-largest-to-one = tt
+largest_to_one = tt
 
-half_h-to-largest : T (le half_h largest_argument)
+half_h_to_largest : T (le half_h largest_argument)
 unfolding round div of_int le
-half_h-to-largest = tt
+half_h_to_largest = tt
 
-half_h-and-L : mag binary64 half_h + mag binary64 L ≤ mag binary64 largest_argument
+half_h_and_L : mag binary64 half_h + mag binary64 L ≤ mag binary64 largest_argument
 unfolding round div of_int of_bits
-half_h-and-L = lit≤ tt
+half_h_and_L = lit≤ tt
 
 pub to_one : (b : Float) → UpTo binary64 largest_argument b → UpTo binary64 one64 b
-to_one b u = up-to-more binary64 largest_argument one64 b largest-fits (one-fits binary64) tt tt largest-to-one u
+to_one b u = up_to_more binary64 largest_argument one64 b largest_fits (one_fits binary64) tt tt largest_to_one u
 
-pub low-up-to : (a : Float) → T (fits binary64 a) → T (plain a) → T (le a half_h) → UpTo binary64 largest_argument a
-low-up-to a h p l = up-to-more binary64 half_h largest_argument a half_h-fits largest-fits half_h-plain tt half_h-to-largest (h, p, l)
+pub low_up_to : (a : Float) → T (fits binary64 a) → T (plain a) → T (le a half_h) → UpTo binary64 largest_argument a
+low_up_to a h p l = up_to_more binary64 half_h largest_argument a half_h_fits largest_fits half_h_plain tt half_h_to_largest (h, p, l)
 
 pub above : (a : Float) → T (fits binary64 a) → T (plain a) → T (not (le a half_h)) → mag binary64 half_h ≤ mag binary64 a
-above a h p n = le_of_lt (lt_of_not-le (λ (g : mag binary64 a ≤ mag binary64 half_h). T_not (le a half_h) n (mag-le binary64 a half_h h half_h-fits p half_h-plain g)))
+above a h p n = le_of_lt (lt_of_not-le (λ (g : mag binary64 a ≤ mag binary64 half_h). T_not (le a half_h) n (mag_le binary64 a half_h h half_h_fits p half_h_plain g)))
 
 more : (x y z c : ℕ) → x ≤ y + c → y ≤ z → x ≤ z + c
 more x y z c h k = omega arith
 
-pub difference-up-to : (a : Float) → T (fits binary64 a) → T (plain a) → T (le a H) → T (not (le a half_h)) → UpTo binary64 half_h (H ⊖ a)
-difference-up-to a h p l n =
-    sub-up-to binary64 half_h H a half_h-fits H-fits h half_h-plain H-plain p l (more (mag binary64 H) (mag binary64 half_h) (mag binary64 a) (mag binary64 half_h) H-two-halves (above a h p n))
+pub difference_up_to : (a : Float) → T (fits binary64 a) → T (plain a) → T (le a H) → T (not (le a half_h)) → UpTo binary64 half_h (H ⊖ a)
+difference_up_to a h p l n =
+    sub_up_to binary64 half_h H a half_h_fits H-fits h half_h_plain H-plain p l (more (mag binary64 H) (mag binary64 half_h) (mag binary64 a) (mag binary64 half_h) H-two-halves (above a h p n))
 
 under : (x y z c : ℕ) → x ≤ y → y + z ≤ c → x + z ≤ c
 under x y z c h k = omega arith
 
 -- H - a and L together
-pub parts-up-to : (a : Float) → T (fits binary64 a) → T (plain a) → T (le a H) → T (not (le a half_h)) → mag binary64 (H ⊖ a) + mag binary64 L ≤ mag binary64 largest_argument
-parts-up-to a h p l n =
-    let u = difference-up-to a h p l n in
-    under (mag binary64 (H ⊖ a)) (mag binary64 half_h) (mag binary64 L) (mag binary64 largest_argument) (mag-mono binary64 (H ⊖ a) half_h u.0 half_h-fits u.1 half_h-plain u.2) half_h-and-L
+pub parts_up_to : (a : Float) → T (fits binary64 a) → T (plain a) → T (le a H) → T (not (le a half_h)) → mag binary64 (H ⊖ a) + mag binary64 L ≤ mag binary64 largest_argument
+parts_up_to a h p l n =
+    let u = difference_up_to a h p l n in
+    under (mag binary64 (H ⊖ a)) (mag binary64 half_h) (mag binary64 L) (mag binary64 largest_argument) (mag_mono binary64 (H ⊖ a) half_h u.0 half_h_fits u.1 half_h_plain u.2) half_h_and_L
 
-pub complement-up-to : (a : Float) → T (fits binary64 a) → T (plain a) → T (le a H) → T (not (le a half_h)) → UpTo binary64 largest_argument (complement_of a)
-complement-up-to a h p l n =
-    let u = difference-up-to a h p l n in
-    add-up-to binary64 largest_argument (H ⊖ a) L largest-fits u.0 L-fits tt u.1 L-plain (parts-up-to a h p l n)
+pub complement_up_to : (a : Float) → T (fits binary64 a) → T (plain a) → T (le a H) → T (not (le a half_h)) → UpTo binary64 largest_argument (complement_of a)
+complement_up_to a h p l n =
+    let u = difference_up_to a h p l n in
+    add_up_to binary64 largest_argument (H ⊖ a) L largest_fits u.0 L-fits tt u.1 L-plain (parts_up_to a h p l n)
 
 -- ---- a property of every a from 0 to H and of its sine, or its cosine: by one series up to H / 2, by the other at the complement beyond, and at -0, which is from 0 to H as well
 abbrev pub minus_zero : Float
 minus_zero = fin true 0 (pos 0)
 
-no-infinity : T (le (inf false) H) → ⊥
+no_infinity : T (le (inf false) H) → ⊥
 unfolding round le
-no-infinity t = t
+no_infinity t = t
 
 abbrev pub by_half : (Float → Float) → (Float → Float) → Float → Float
 by_half S C a = cond (le a half_h) (S a) (C (complement_of a))
 
 module _ (S C : Float → Float) (P : Float → Float → Type 0) where
-  pub by-halves : ((a : Float) → T (fits binary64 a) → T (plain a) → T (le a half_h) → P a (S a))
+  pub by_halves : ((a : Float) → T (fits binary64 a) → T (plain a) → T (le a half_h) → P a (S a))
       → ((a : Float) → T (fits binary64 a) → T (plain a) → T (le a H) → T (not (le a half_h)) → P a (C (complement_of a))) → P minus_zero (by_half S C minus_zero)
       → (a : Float) → T (fits binary64 a) → T (le arithmetic.zero64 a) → T (le a H) → P a (by_half S C a)
-  by-halves low high z nan h lo hi = unfold le in absurd lo
-  by-halves low high z (inf true) h lo hi = unfold le in absurd lo
-  by-halves low high z (inf false) h lo hi = absurd (no-infinity hi)
-  by-halves low high z (fin true zero e) h lo hi = subst (λ (a : Float). P a (by_half S C a)) (sym (zero_is binary64 true e h)) z
-  by-halves low high z (fin true (suc m) e) h lo hi = absurd (subst T (eqb-suc-zero m) (is_zero (suc m) e lo))
-  by-halves low high z (fin false m e) h lo hi = go (le (fin false m e) half_h) (low (fin false m e) h tt) (high (fin false m e) h tt hi)
+  by_halves low high z nan h lo hi = unfold le in absurd lo
+  by_halves low high z (inf true) h lo hi = unfold le in absurd lo
+  by_halves low high z (inf false) h lo hi = absurd (no_infinity hi)
+  by_halves low high z (fin true zero e) h lo hi = subst (λ (a : Float). P a (by_half S C a)) (sym (zero_is binary64 true e h)) z
+  by_halves low high z (fin true (suc m) e) h lo hi = absurd (subst T (eqb-suc-zero m) (is_zero (suc m) e lo))
+  by_halves low high z (fin false m e) h lo hi = go (le (fin false m e) half_h) (low (fin false m e) h tt) (high (fin false m e) h tt hi)
     where
       a : Float
       a = fin false m e
@@ -185,29 +185,29 @@ module _ (S C : Float → Float) (P : Float → Float → Type 0) where
 abbrev pub ZeroToOne : Float → Type 0
 ZeroToOne r = T (finite r) × T (le arithmetic.zero64 r) × T (le r one64)
 
-from-up-to : (x : Float) → UpTo binary64 one64 x → ZeroToOne x
-from-up-to x u = (plain-finite x u.1, zero-le-plain x u.1, u.2)
+from_up_to : (x : Float) → UpTo binary64 one64 x → ZeroToOne x
+from_up_to x u = (plain_finite x u.1, zero_le_plain x u.1, u.2)
 
 range : (S C : Float → Float) → ((b : Float) → UpTo binary64 one64 b → UpTo binary64 one64 (S b)) → ((b : Float) → UpTo binary64 one64 b → UpTo binary64 one64 (C b))
     → ZeroToOne (by_half S C minus_zero) → (a : Float) → T (fits binary64 a) → T (le arithmetic.zero64 a) → T (le a H) → ZeroToOne (by_half S C a)
 range S C s c =
-    by-halves S C (λ (a r : Float). ZeroToOne r) (λ (a : Float) (h : T (fits binary64 a)) (p : T (plain a)) (l : T (le a half_h)). from-up-to (S a) (s a (to_one a (low-up-to a h p l))))
-    (λ (a : Float) (h : T (fits binary64 a)) (p : T (plain a)) (l : T (le a H)) (n : T (not (le a half_h))). from-up-to (C (complement_of a)) (c (complement_of a) (to_one (complement_of a) (complement-up-to a h p l n))))
+    by_halves S C (λ (a r : Float). ZeroToOne r) (λ (a : Float) (h : T (fits binary64 a)) (p : T (plain a)) (l : T (le a half_h)). from_up_to (S a) (s a (to_one a (low_up_to a h p l))))
+    (λ (a : Float) (h : T (fits binary64 a)) (p : T (plain a)) (l : T (le a H)) (n : T (not (le a half_h))). from_up_to (C (complement_of a)) (c (complement_of a) (to_one (complement_of a) (complement_up_to a h p l n))))
 
-sine-minus-zero : ZeroToOne (sine_of minus_zero)
+sine_minus_zero : ZeroToOne (sine_of minus_zero)
 unfolding sine_of sine_series series round div of_int mul sub add sum neg le
-sine-minus-zero = (tt, tt, tt)
+sine_minus_zero = (tt, tt, tt)
 
-cosine-minus-zero : ZeroToOne (cosine_of minus_zero)
+cosine_minus_zero : ZeroToOne (cosine_of minus_zero)
 unfolding cosine_of cosine_series series round div of_int mul sub add sum neg le
-cosine-minus-zero = (tt, tt, tt)
+cosine_minus_zero = (tt, tt, tt)
 
-pub sine-range : (a : Float) → T (fits binary64 a) → T (le arithmetic.zero64 a) → T (le a H) → ZeroToOne (sine_of a)
+pub sine_range : (a : Float) → T (fits binary64 a) → T (le arithmetic.zero64 a) → T (le a H) → ZeroToOne (sine_of a)
 unfolding sine_of
-sine-range = range sine_series cosine_series sine-up-to cosine-up-to sine-minus-zero
+sine_range = range sine_series cosine_series sine_up_to cosine_up_to sine_minus_zero
 
-pub cosine-range : (a : Float) → T (fits binary64 a) → T (le arithmetic.zero64 a) → T (le a H) → ZeroToOne (cosine_of a)
+pub cosine_range : (a : Float) → T (fits binary64 a) → T (le arithmetic.zero64 a) → T (le a H) → ZeroToOne (cosine_of a)
 unfolding cosine_of
-cosine-range = range cosine_series sine_series cosine-up-to sine-up-to cosine-minus-zero
+cosine_range = range cosine_series sine_series cosine_up_to sine_up_to cosine_minus_zero
 
 -- ---- they are doubles wherever they are taken

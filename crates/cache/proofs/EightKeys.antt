@@ -9,33 +9,33 @@ use lib.Dec.{eqb, ltb}
 use lib.ListN.{length, take, drop, get_or, length-append, length-drop}
 use lib.Seq.{length-take-le, take_at, drop_at, take-append-le, take-take, drop-append-add, drop-drop, get_or-take}
 use Rattle.lists.specs.Lists.{all_same}
-use Rattle.lists.proofs.Chunks.{slice-take}
+use Rattle.lists.proofs.Chunks.{slice_take}
 use Rattle.cache.specs.declared.Slot.{Slot}
 use Rattle.cache.specs.declared.Slot.TheVariants.{At, Missing}
 use Rattle.cache.specs.Places.{key_at, with_key, find_from, first_places}
-use Rattle.cache.proofs.KeyCompare.{same-equal, equal-same, eight-at}
+use Rattle.cache.proofs.KeyCompare.{same_equal, equal_same, eight_at}
 
 -- ---- eight keys, each in its place
 module _ (keys : List ℕ) (p : ℕ) (key : List ℕ) (long : length keys ≡ 1248) (h : p < 8) (k : length key ≡ 156) where
   front_length : length (take (156 * p) keys) ≡ 156 * p
   front_length = length-take-le (156 * p) keys (omega arith)
 
-  put-length : length (take (156 * p) keys ++ key) ≡ 156 * p + 156
-  put-length = let f = front_length in rw length-append (omega arith)
+  put_length : length (take (156 * p) keys ++ key) ≡ 156 * p + 156
+  put_length = let f = front_length in rw length-append (omega arith)
 
-  pub with-length : length (with_key keys p key) ≡ 1248
-  with-length = let f = put-length in rw (length-append (take (156 * p) keys ++ key) (drop (156 * p + 156) keys), length-drop) (omega arith)
+  pub with_length : length (with_key keys p key) ≡ 1248
+  with_length = let f = put_length in rw (length-append (take (156 * p) keys ++ key) (drop (156 * p + 156) keys), length-drop) (omega arith)
 
   -- a key is read where it was put
-  pub with-here : key_at (with_key keys p key) p ≡ key
-  with-here =
-      rw (take_at (take (156 * p) keys ++ key) (drop (156 * p + 156) keys) (156 * p + 156) put-length)
+  pub with_here : key_at (with_key keys p key) p ≡ key
+  with_here =
+      rw (take_at (take (156 * p) keys ++ key) (drop (156 * p + 156) keys) (156 * p + 156) put_length)
       (drop_at (take (156 * p) keys) key (156 * p) front_length)
 
   before : (q : ℕ) → q < p → key_at (with_key keys p key) q ≡ key_at keys q
   before q g =
       let f = front_length in
-      let e = put-length in
+      let e = put_length in
       ap (drop (156 * q))
       (take-append-le (156 * q + 156) (take (156 * p) keys ++ key) (drop (156 * p + 156) keys) (omega arith)
       ∙ take-append-le (156 * q + 156) (take (156 * p) keys) key (omega arith)
@@ -46,16 +46,16 @@ module _ (keys : List ℕ) (p : ℕ) (key : List ℕ) (long : length keys ≡ 12
       let front = take (156 * p) keys ++ key in
       let rest = drop (156 * p + 156) keys in
       let r = 156 * q - (156 * p + 156) in
-      let f = put-length in
+      let f = put_length in
       let e : 156 * q ≡ length front + r = omega arith in
       let back : 156 * p + 156 + r ≡ 156 * q = omega arith in
-      slice-take (156 * q) 156 (front ++ rest)
+      slice_take (156 * q) 156 (front ++ rest)
       ∙ ap (take 156) (ap (λ (n : ℕ). drop n (front ++ rest)) e ∙ drop-append-add front rest r ∙ drop-drop r (156 * p + 156) keys ∙ ap (λ (n : ℕ). drop n keys) back)
-      ∙ sym (slice-take (156 * q) 156 keys)
+      ∙ sym (slice_take (156 * q) 156 keys)
 
   -- and the others stay
-  pub with-other : (q : ℕ) → (p ≡ q → ⊥) → key_at (with_key keys p key) q ≡ key_at keys q
-  with-other q n = go (ltb q p) (ltb p q) refl refl
+  pub with_other : (q : ℕ) → (p ≡ q → ⊥) → key_at (with_key keys p key) q ≡ key_at keys q
+  with_other q n = go (ltb q p) (ltb p q) refl refl
     where
       go : (b c : Bool) → ltb q p ≡ b → ltb p q ≡ c → key_at (with_key keys p key) q ≡ key_at keys q
       go true c e f = before q (ltb-true q p e)
@@ -80,8 +80,8 @@ pub record FoundAt (keys key : List ℕ) (p n r : ℕ) : Type 0 where
   pub place : r ≡ (p + index) % 8
   pub same : key_at keys r ≡ key
 
-places-at : (i n : ℕ) → i < n → n ≤ 8 → get_or (first_places n) i 0 ≡ i
-places-at i n h k = get_or-take n _ i 0 h ∙ eight-at i (omega arith)
+places_at : (i n : ℕ) → i < n → n ≤ 8 → get_or (first_places n) i 0 ≡ i
+places_at i n h k = get_or-take n _ i 0 h ∙ eight_at i (omega arith)
 
 module _ (keys key : List ℕ) (p : ℕ) where
   abbrev at : ℕ → ℕ
@@ -99,7 +99,7 @@ module _ (keys key : List ℕ) (p : ℕ) where
   found_in_lem (i ∷ is) r e = go (holds i) refl e (found_in_lem is r)
     where
       go : (b : Bool) → holds i ≡ b → cond b (At (at i)) (find_from keys key p is) ≡ At r → (find_from keys key p is ≡ At r → In is r) → In (i ∷ is) r
-      go true q f w = let f' : at i ≡ r = unfold place_in in ap place_in f in (0, omega arith, sym f', rw (← f') (same-equal (key_at keys (at i)) key q))
+      go true q f w = let f' : at i ≡ r = unfold place_in in ap place_in f in (0, omega arith, sym f', rw (← f') (same_equal (key_at keys (at i)) key q))
       go false q f w = let v = w f in (suc v.0, omega arith, v.2, v.3)
 
   -- none of them does
@@ -109,22 +109,22 @@ module _ (keys key : List ℕ) (p : ℕ) where
     where
       go : (b : Bool) → holds i ≡ b → cond b (At (at i)) (find_from keys key p is) ≡ Missing → (find_from keys key p is ≡ Missing → (j : ℕ) → j < length is → key_at keys (at (get_or is j 0)) ≡ key → ⊥) → (j : ℕ) → j < suc (length is) → key_at keys (at (get_or (i ∷ is) j 0)) ≡ key → ⊥
       go true g f w j h q = absurd (true≢false (unfold is_at in ap is_at f))
-      go false g f w zero h q = true≢false (sym (rw q (equal-same key)) ∙ g)
+      go false g f w zero h q = true≢false (sym (rw q (equal_same key)) ∙ g)
       go false g f w (suc j) h q = w f j (omega arith) q
 
   -- ---- the laws of a search through n places from the oldest on
   module _ (n : ℕ) (few : n ≤ 8) where
-    count-is : length (first_places n) ≡ n
-    count-is = length-take-le n _ few
+    count_is : length (first_places n) ≡ n
+    count_is = length-take-le n _ few
 
     -- a place found is one of the n, and holds the key
-    pub find-place : (r : ℕ) → find_from keys key p (first_places n) ≡ At r → FoundAt keys key p n r
-    find-place r e =
+    pub find_place : (r : ℕ) → find_from keys key p (first_places n) ≡ At r → FoundAt keys key p n r
+    find_place r e =
         let w = found_in_lem (first_places n) r e in
-        let c = count-is in
+        let c = count_is in
         let b : w.0 < n = omega arith in
-        record { index = w.0; within = b; place = w.2 ∙ rw (places-at w.0 n b few); same = w.3 }
+        record { index = w.0; within = b; place = w.2 ∙ rw (places_at w.0 n b few); same = w.3 }
 
     -- where none is found, none of the n holds the key
     pub find_none : find_from keys key p (first_places n) ≡ Missing → (i : ℕ) → i < n → key_at keys ((p + i) % 8) ≡ key → ⊥
-    find_none e i h q = found_none (first_places n) e i (rw count-is h) (rw (places-at i n h few) q)
+    find_none e i h q = found_none (first_places n) e i (rw count_is h) (rw (places_at i n h few) q)

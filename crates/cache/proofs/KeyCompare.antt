@@ -11,7 +11,7 @@ use lib.Dec.{eqb}
 use lib.ListN.{length, take, drop, get_or}
 use lib.Seq.{slice, take_all, get_or-drop, get_or-take}
 use Rattle.lists.specs.Lists.{all_same}
-use Rattle.lists.proofs.Loops.{slice-more, slice-done}
+use Rattle.lists.proofs.Loops.{slice_more, slice_done}
 use Rattle.cache.specs.declared.Slot.{Slot}
 use Rattle.cache.specs.declared.Slot.TheVariants.{At, Missing}
 use Rattle.cache.specs.Places.{key_at, find_from, first_places}
@@ -29,39 +29,39 @@ and_both : (a b : Bool) → (a && b) ≡ true → (a ≡ true) × (b ≡ true)
 and_both true b e = (refl, e)
 and_both false b e = absurd (true≢false (sym e))
 
-pub same-equal : (xs ys : List ℕ) → all_same eqb xs ys ≡ true → xs ≡ ys
-same-equal [] [] e = refl
-same-equal [] (y ∷ ys) e = absurd (true≢false (sym e))
-same-equal (x ∷ xs) [] e = absurd (true≢false (sym e))
-same-equal (x ∷ xs) (y ∷ ys) e =
+pub same_equal : (xs ys : List ℕ) → all_same eqb xs ys ≡ true → xs ≡ ys
+same_equal [] [] e = refl
+same_equal [] (y ∷ ys) e = absurd (true≢false (sym e))
+same_equal (x ∷ xs) [] e = absurd (true≢false (sym e))
+same_equal (x ∷ xs) (y ∷ ys) e =
     let p = and_both (eqb x y) (all_same eqb xs ys) e in
-    ap₂ (λ (a : ℕ) (r : List ℕ). a ∷ r) (eqb-true x y p.0) (same-equal xs ys p.1)
+    ap₂ (λ (a : ℕ) (r : List ℕ). a ∷ r) (eqb-true x y p.0) (same_equal xs ys p.1)
 
-pub equal-same : (xs : List ℕ) → all_same eqb xs xs ≡ true
-equal-same [] = refl
-equal-same (x ∷ xs) = rw (eq-eqb x x refl, equal-same xs)
+pub equal_same : (xs : List ℕ) → all_same eqb xs xs ≡ true
+equal_same [] = refl
+equal_same (x ∷ xs) = rw (eq-eqb x x refl, equal_same xs)
 
 pub not_same : (xs ys : List ℕ) → (xs ≡ ys → ⊥) → all_same eqb xs ys ≡ false
 not_same xs ys n = go (all_same eqb xs ys) refl
   where
     go : (b : Bool) → all_same eqb xs ys ≡ b → all_same eqb xs ys ≡ false
-    go true e = absurd (n (same-equal xs ys e))
+    go true e = absurd (n (same_equal xs ys e))
     go false e = e
 
 -- ---- bits that differ
-xor-none : (a b : ℕ) → bit_xor a b ≡ 0 → a ≡ b
-xor-none a b e = omega (arith, xor_add_and a b, and_le_l a b, and_le_r a b, e)
+xor_none : (a b : ℕ) → bit_xor a b ≡ 0 → a ≡ b
+xor_none a b e = omega (arith, xor_add_and a b, and_le_l a b, and_le_r a b, e)
 
-or-none : (a b : ℕ) → bit_or a b ≡ 0 → (a ≡ 0) × (b ≡ 0)
-or-none a b e = (omega (arith, or_add_and a b, and_le_l a b, and_le_r a b, e), omega (arith, or_add_and a b, and_le_l a b, and_le_r a b, e))
+or_none : (a b : ℕ) → bit_or a b ≡ 0 → (a ≡ 0) × (b ≡ 0)
+or_none a b e = (omega (arith, or_add_and a b, and_le_l a b, and_le_r a b, e), omega (arith, or_add_and a b, and_le_l a b, and_le_r a b, e))
 
 gathered : (d x y : ℕ) → eqb (bit_or d (bit_xor x y)) 0 ≡ (eqb d 0 && eqb x y)
 gathered d x y = go (eqb d 0) (eqb x y) refl refl
   where
     go : (a b : Bool) → eqb d 0 ≡ a → eqb x y ≡ b → eqb (bit_or d (bit_xor x y)) 0 ≡ (a && b)
     go true true e f = eq-eqb _ 0 (ap₂ bit_or (eqb-true d 0 e) (ap (bit_xor x) (sym (eqb-true x y f)) ∙ xor_self x))
-    go true false e f = ne_eqb _ 0 (λ z. eqb-false x y f (xor-none x y (or-none d (bit_xor x y) z).1))
-    go false b e f = ne_eqb _ 0 (λ z. eqb-false d 0 e (or-none d (bit_xor x y) z).0)
+    go true false e f = ne_eqb _ 0 (λ z. eqb-false x y f (xor_none x y (or_none d (bit_xor x y) z).1))
+    go false b e f = ne_eqb _ 0 (λ z. eqb-false d 0 e (or_none d (bit_xor x y) z).0)
 
 -- ---- a loop that compares the key with the words from a place on
 pub record Compared (words : List ℕ) (from : ℕ) (key : List ℕ) (differ i : ℕ) : Type 0 where
@@ -71,16 +71,16 @@ pub record Compared (words : List ℕ) (from : ℕ) (key : List ℕ) (differ i :
   pub same : (eqb differ 0 && all_same eqb (slice (from + i) (from + 156) words) (slice i 156 key)) ≡ all_same eqb (slice from (from + 156) words) key
 
 module _ (words : List ℕ) (from : ℕ) (key : List ℕ) where
-  pub compared-none : from + 156 ≤ length words → length key ≡ 156 → Compared words from key 0 0
-  compared-none r l = record { reached = omega arith; room = r; long = l; same = rw (add-zero from, take_all 156 key (omega arith)) }
+  pub compared_none : from + 156 ≤ length words → length key ≡ 156 → Compared words from key 0 0
+  compared_none r l = record { reached = omega arith; room = r; long = l; same = rw (add-zero from, take_all 156 key (omega arith)) }
 
   module _ (d i : ℕ) (w : Compared words from key d i) where
-    pub compared-more : i < 156 → Compared words from key (bit_or d (bit_xor (get_or words (from + i) 0) (get_or key i 0))) (i + 1)
-    compared-more h =
+    pub compared_more : i < 156 → Compared words from key (bit_or d (bit_xor (get_or words (from + i) 0) (get_or key i 0))) (i + 1)
+    compared_more h =
         let x = get_or words (from + i) 0 in
         let y = get_or key i 0 in
         let r = all_same eqb (slice (from + i + 1) (from + 156) words) (slice (i + 1) 156 key) in
-        let o = ap₂ (all_same eqb) (slice-more (from + i) (from + 156) words 0 (omega arith) w.room) (slice-more i 156 key 0 h (omega arith)) in
+        let o = ap₂ (all_same eqb) (slice_more (from + i) (from + 156) words 0 (omega arith) w.room) (slice_more i 156 key 0 h (omega arith)) in
         record {
           reached = omega arith;
           room = w.room;
@@ -88,13 +88,13 @@ module _ (words : List ℕ) (from : ℕ) (key : List ℕ) where
           same = rw (← add_assoc from i 1) (ap (λ (b : Bool). b && r) (gathered d x y) ∙ and_assoc (eqb d 0) (eqb x y) r ∙ ap (λ (b : Bool). eqb d 0 && b) (sym o) ∙ w.same);
         }
 
-    pub compared-done : 156 ≤ i → eqb d 0 ≡ all_same eqb (slice from (from + 156) words) key
-    compared-done h =
-        sym (and-true (eqb d 0)) ∙ sym (ap (λ (b : Bool). eqb d 0 && b) (ap₂ (all_same eqb) (slice-done (from + i) (from + 156) words (omega arith)) (slice-done i 156 key (omega arith)))) ∙ w.same
+    pub compared_done : 156 ≤ i → eqb d 0 ≡ all_same eqb (slice from (from + 156) words) key
+    compared_done h =
+        sym (and-true (eqb d 0)) ∙ sym (ap (λ (b : Bool). eqb d 0 && b) (ap₂ (all_same eqb) (slice_done (from + i) (from + 156) words (omega arith)) (slice_done i 156 key (omega arith)))) ∙ w.same
 
   -- one word that differs
-  pub word-differs : (i : ℕ) → i < 156 → (get_or words (from + i) 0 ≡ get_or key i 0 → ⊥) → false ≡ all_same eqb (slice from (from + 156) words) key
-  word-differs i h q =
+  pub word_differs : (i : ℕ) → i < 156 → (get_or words (from + i) 0 ≡ get_or key i 0 → ⊥) → false ≡ all_same eqb (slice from (from + 156) words) key
+  word_differs i h q =
       let at : get_or (slice from (from + 156) words) i 0 ≡ get_or words (from + i) 0 = get_or-drop from (take (from + 156) words) i 0 ∙ get_or-take (from + 156) words (from + i) 0 (omega arith) in
       sym (not_same (slice from (from + 156) words) key (λ e. q (sym at ∙ ap (λ (l : List ℕ). get_or l i 0) e)))
 
@@ -102,22 +102,22 @@ module _ (words : List ℕ) (from : ℕ) (key : List ℕ) where
 abbrev pub eight : List ℕ
 eight = 0 ∷ 1 ∷ 2 ∷ 3 ∷ 4 ∷ 5 ∷ 6 ∷ 7 ∷ []
 
-pub eight-at : (i : ℕ) → i < 8 → get_or eight i 0 ≡ i
-eight-at zero h = refl
-eight-at (suc zero) h = refl
-eight-at (suc (suc zero)) h = refl
-eight-at (suc (suc (suc zero))) h = refl
-eight-at (suc (suc (suc (suc zero)))) h = refl
-eight-at (suc (suc (suc (suc (suc zero))))) h = refl
-eight-at (suc (suc (suc (suc (suc (suc zero)))))) h = refl
-eight-at (suc (suc (suc (suc (suc (suc (suc zero))))))) h = refl
-eight-at (suc (suc (suc (suc (suc (suc (suc (suc i)))))))) h = absurd (omega arith)
+pub eight_at : (i : ℕ) → i < 8 → get_or eight i 0 ≡ i
+eight_at zero h = refl
+eight_at (suc zero) h = refl
+eight_at (suc (suc zero)) h = refl
+eight_at (suc (suc (suc zero))) h = refl
+eight_at (suc (suc (suc (suc zero)))) h = refl
+eight_at (suc (suc (suc (suc (suc zero))))) h = refl
+eight_at (suc (suc (suc (suc (suc (suc zero)))))) h = refl
+eight_at (suc (suc (suc (suc (suc (suc (suc zero))))))) h = refl
+eight_at (suc (suc (suc (suc (suc (suc (suc (suc i)))))))) h = absurd (omega arith)
 
-pub places-more : (i n : ℕ) → i < n → n ≤ 8 → drop i (first_places n) ≡ i ∷ drop (i + 1) (first_places n)
-places-more i n h k = slice-more i n eight 0 h k ∙ ap (λ (j : ℕ). j ∷ drop (i + 1) (first_places n)) (eight-at i (omega arith))
+pub places_more : (i n : ℕ) → i < n → n ≤ 8 → drop i (first_places n) ≡ i ∷ drop (i + 1) (first_places n)
+places_more i n h k = slice_more i n eight 0 h k ∙ ap (λ (j : ℕ). j ∷ drop (i + 1) (first_places n)) (eight_at i (omega arith))
 
-pub places-done : (i n : ℕ) → i ≡ n → drop i (first_places n) ≡ []
-places-done i n e = slice-done i n eight e
+pub places_done : (i n : ℕ) → i ≡ n → drop i (first_places n) ≡ []
+places_done i n e = slice_done i n eight e
 
 module _ (words key : List ℕ) (p : ℕ) where
   -- the places from the oldest + i on
@@ -127,22 +127,22 @@ module _ (words key : List ℕ) (p : ℕ) where
     pub same : find_from words key p (drop i (first_places n)) ≡ find_from words key p (first_places n)
 
   module _ (n i : ℕ) (w : Finding n i) where
-    pub finding-here : i < n → all_same eqb (key_at words ((p + i) % 8)) key ≡ true → At ((p + i) % 8) ≡ find_from words key p (first_places n)
-    finding-here h q = sym (rw (places-more i n h w.few, q)) ∙ w.same
+    pub finding_here : i < n → all_same eqb (key_at words ((p + i) % 8)) key ≡ true → At ((p + i) % 8) ≡ find_from words key p (first_places n)
+    finding_here h q = sym (rw (places_more i n h w.few, q)) ∙ w.same
 
-    pub finding-next : i < n → all_same eqb (key_at words ((p + i) % 8)) key ≡ false → Finding n (i + 1)
-    finding-next h q = record { reached = omega arith; few = w.few; same = sym (rw (places-more i n h w.few, q)) ∙ w.same }
+    pub finding_next : i < n → all_same eqb (key_at words ((p + i) % 8)) key ≡ false → Finding n (i + 1)
+    finding_next h q = record { reached = omega arith; few = w.few; same = sym (rw (places_more i n h w.few, q)) ∙ w.same }
 
-    pub finding-done : n ≤ i → Missing ≡ find_from words key p (first_places n)
-    finding-done h = sym (ap (find_from words key p) (places-done i n (omega arith))) ∙ w.same
+    pub finding_done : n ≤ i → Missing ≡ find_from words key p (first_places n)
+    finding_done h = sym (ap (find_from words key p) (places_done i n (omega arith))) ∙ w.same
 
 -- the places from a remainder on are those from the number itself on
-pub from-remainder : (keys key : List ℕ) (p : ℕ) (is : List ℕ) → find_from keys key (p % 8) is ≡ find_from keys key p is
-from-remainder keys key p [] = refl
-from-remainder keys key p (i ∷ is) =
+pub from_remainder : (keys key : List ℕ) (p : ℕ) (is : List ℕ) → find_from keys key (p % 8) is ≡ find_from keys key p is
+from_remainder keys key p [] = refl
+from_remainder keys key p (i ∷ is) =
     let e : (p % 8 + i) % 8 ≡ (p + i) % 8 = omega arith in
-    ap₂ (λ (j : ℕ) (s : Slot). cond (all_same eqb (key_at keys (j)) key) (At j) s) e (from-remainder keys key p is)
+    ap₂ (λ (j : ℕ) (s : Slot). cond (all_same eqb (key_at keys (j)) key) (At j) s) e (from_remainder keys key p is)
 
 -- there are eight places at most
-pub all-places : (n : ℕ) → 8 ≤ n → first_places n ≡ first_places 8
-all-places n h = take_all n eight h
+pub all_places : (n : ℕ) → 8 ≤ n → first_places n ≡ first_places 8
+all_places n h = take_all n eight h

@@ -25,10 +25,10 @@ one_more c y v w s t S h k = let a = mul-le-mul_right (s + t) h in let b = mul-l
 one_only : (c y w : ℕ) → c * w + y * 0 + y * 0 ≤ (c + 0) * w
 one_only c y w = omega arith
 
-pub sides-bound : (y v : ℕ) (c : ℕ) (cs : List ℕ) → y ≤ v → side true y v (c ∷ cs) + side false y v (c ∷ cs) ≤ total (c ∷ cs) * v ^ length cs
+pub sides_bound : (y v : ℕ) (c : ℕ) (cs : List ℕ) → y ≤ v → side true y v (c ∷ cs) + side false y v (c ∷ cs) ≤ total (c ∷ cs) * v ^ length cs
 unfolding side
-sides-bound y v c [] h = one_only c y (v ^ 0)
-sides-bound y v c (d ∷ cs) h = rw (pow-suc v (length cs)) (one_more c y v (v ^ length cs) (side true y v (d ∷ cs)) (side false y v (d ∷ cs)) (total (d ∷ cs)) h (sides-bound y v d cs h))
+sides_bound y v c [] h = one_only c y (v ^ 0)
+sides_bound y v c (d ∷ cs) h = rw (pow-suc v (length cs)) (one_more c y v (v ^ length cs) (side true y v (d ∷ cs)) (side false y v (d ∷ cs)) (total (d ∷ cs)) h (sides_bound y v d cs h))
 
 -- ---- a coefficient alone, rounded to C, beside the sum that it starts: the rest is up to 16/25 of the sum of the coefficients
 off : (y v w s t S : ℕ) → 25 * y ≤ 16 * v → s + t ≤ S * w → 25 * (y * (s + t)) ≤ 16 * (S * (w * v))

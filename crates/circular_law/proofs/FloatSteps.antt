@@ -9,20 +9,20 @@ use lib.Ieee.{Float, Format, prec, low, add, sub, mul, fits}
 use lib.Ieee.Fits.{mul-fits}
 use lib.Ieee.Scale.{finite}
 use Rattle.doubles.specs.Distance.{Apart}
-use Rattle.doubles.proofs.Magnitude.{mag, plain, plain-finite}
-use Rattle.doubles.proofs.Errors.{mul-error, sub-error, add-error}
+use Rattle.doubles.proofs.Magnitude.{mag, plain, plain_finite}
+use Rattle.doubles.proofs.Errors.{mul_error, sub_error, add_error}
 use Rattle.circular_law.proofs.Steps.{Near, step}
 
 -- ---- an error of 2 ^ i / 2 as a multiple of h
 halved : (a b s e : ℕ) → s ≡ 2 * e → Apart (2 * a) (2 * b) s → Apart a b e
 halved a b s e q h = omega arith
 
-halved-times : (a b s e u : ℕ) → s ≡ 2 * e → Apart (2 * a) (2 * b) (s * u) → Apart a b (e * u)
-halved-times a b s e u q h = let r : s * u ≡ 2 * e * u = ap (λ (z : ℕ). z * u) q in omega arith
+halved_times : (a b s e u : ℕ) → s ≡ 2 * e → Apart (2 * a) (2 * b) (s * u) → Apart a b (e * u)
+halved_times a b s e u q h = let r : s * u ≡ 2 * e * u = ap (λ (z : ℕ). z * u) q in omega arith
 
 -- ---- products below 1/2 and below 1
-under-half : (Y R u m : ℕ) → 2 * R ≤ u → Y < u → 0 < u → m * 2 ≡ u → Y * R < m * u
-under-half Y R u m h k U e = half (mul-le-mul_right Y h) (mul-lt-mul_of_pos_right k U) (ap (λ (z : ℕ). z * u) e)
+under_half : (Y R u m : ℕ) → 2 * R ≤ u → Y < u → 0 < u → m * 2 ≡ u → Y * R < m * u
+under_half Y R u m h k U e = half (mul-le-mul_right Y h) (mul-lt-mul_of_pos_right k U) (ap (λ (z : ℕ). z * u) e)
   where
     half : 2 * R * Y ≤ u * Y → Y * u < u * u → m * 2 * u ≡ u * u → Y * R < m * u
     half a b c = omega arith
@@ -43,48 +43,48 @@ module _ (f : Format) (i h : ℕ) (size : 2 ^ i ≡ 4 * h) (top : prec f + suc i
   one_power : 2 ^ (prec f + suc i) ≡ u
   one_power = ap (λ (z : ℕ). 2 ^ z) top
 
-  half-power : 2 ^ (prec f + i) * 2 ≡ u
-  half-power = sym (pow-suc 2 (prec f + i)) ∙ ap (λ (z : ℕ). 2 ^ z) (sym (add-suc (prec f) i)) ∙ one_power
+  half_power : 2 ^ (prec f + i) * 2 ≡ u
+  half_power = sym (pow-suc 2 (prec f + i)) ∙ ap (λ (z : ℕ). 2 ^ z) (sym (add-suc (prec f) i)) ∙ one_power
 
-  two-power : 2 ^ (prec f + suc (suc i)) ≡ u * 2
-  two-power = ap (λ (z : ℕ). 2 ^ z) (add-suc (prec f) (suc i)) ∙ pow-suc 2 (prec f + suc i) ∙ ap (λ (z : ℕ). z * 2) one_power
+  two_power : 2 ^ (prec f + suc (suc i)) ≡ u * 2
+  two_power = ap (λ (z : ℕ). 2 ^ z) (add-suc (prec f) (suc i)) ∙ pow-suc 2 (prec f + suc i) ∙ ap (λ (z : ℕ). z * 2) one_power
 
-  first-half : 2 ^ i ≡ 2 * (2 * h)
-  first-half = size ∙ twice h
+  first_half : 2 ^ i ≡ 2 * (2 * h)
+  first_half = size ∙ twice h
     where
       twice : (z : ℕ) → 4 * z ≡ 2 * (2 * z)
       twice z = omega arith
 
-  second-half : 2 ^ suc i ≡ 2 * (4 * h)
-  second-half = pow-suc 2 i ∙ ap (λ (z : ℕ). z * 2) size ∙ mul_comm (4 * h) 2
+  second_half : 2 ^ suc i ≡ 2 * (4 * h)
+  second_half = pow-suc 2 i ∙ ap (λ (z : ℕ). z * 2) size ∙ mul_comm (4 * h) 2
 
-  third-half : 2 ^ suc (suc i) ≡ 2 * (8 * h)
-  third-half = pow-suc 2 (suc i) ∙ ap (λ (z : ℕ). z * 2) second-half ∙ eight h
+  third_half : 2 ^ suc (suc i) ≡ 2 * (8 * h)
+  third_half = pow-suc 2 (suc i) ∙ ap (λ (z : ℕ). z * 2) second_half ∙ eight h
     where
       eight : (z : ℕ) → 2 * (4 * z) * 2 ≡ 2 * (8 * z)
       eight z = omega arith
 
-  product-half : (y r : Float) → T (fits f y) → T (fits f r) → T (plain y) → T (plain r) → T (finite (mul f y r)) → mag f y < u → 2 * mag f r ≤ u → Apart (mag f (mul f y r) * u) (mag f y * mag f r) (2 * h * u)
-  product-half y r a b p q t k l =
-      halved-times (mag f (mul f y r) * u) (mag f y * mag f r) (2 ^ i) (2 * h) u first-half
-      (mul-error f y r i a b p q t (under-half (mag f y) (mag f r) u (2 ^ (prec f + i)) l k U half-power))
+  product_half : (y r : Float) → T (fits f y) → T (fits f r) → T (plain y) → T (plain r) → T (finite (mul f y r)) → mag f y < u → 2 * mag f r ≤ u → Apart (mag f (mul f y r) * u) (mag f y * mag f r) (2 * h * u)
+  product_half y r a b p q t k l =
+      halved_times (mag f (mul f y r) * u) (mag f y * mag f r) (2 ^ i) (2 * h) u first_half
+      (mul_error f y r i a b p q t (under_half (mag f y) (mag f r) u (2 ^ (prec f + i)) l k U half_power))
 
-  pub product-one : (x y : Float) → T (fits f x) → T (fits f y) → T (plain x) → T (plain y) → T (finite (mul f x y)) → mag f x < u → mag f y ≤ u → Apart (mag f (mul f x y) * u) (mag f x * mag f y) (4 * h * u)
-  product-one x y a b p q t k l =
-      halved-times (mag f (mul f x y) * u) (mag f x * mag f y) (2 ^ suc i) (4 * h) u second-half
-      (mul-error f x y (suc i) a b p q t (rw one_power (under_one (mag f x) (mag f y) u k l U)))
+  pub product_one : (x y : Float) → T (fits f x) → T (fits f y) → T (plain x) → T (plain y) → T (finite (mul f x y)) → mag f x < u → mag f y ≤ u → Apart (mag f (mul f x y) * u) (mag f x * mag f y) (4 * h * u)
+  product_one x y a b p q t k l =
+      halved_times (mag f (mul f x y) * u) (mag f x * mag f y) (2 ^ suc i) (4 * h) u second_half
+      (mul_error f x y (suc i) a b p q t (rw one_power (under_one (mag f x) (mag f y) u k l U)))
 
-  up-to-double : (x z : ℕ) → x ≤ z → 0 < z → x < z * 2
-  up-to-double x z a b = omega arith
+  up_to_double : (x z : ℕ) → x ≤ z → 0 < z → x < z * 2
+  up_to_double x z a b = omega arith
 
-  difference-one : (x y : Float) → T (fits f x) → T (fits f y) → T (plain x) → T (plain y) → mag f y ≤ mag f x → T (finite (sub f x y)) → mag f x ≤ u → Apart (mag f (sub f x y) + mag f y) (mag f x) (8 * h)
-  difference-one x y a b p q o t l =
-      halved (mag f (sub f x y) + mag f y) (mag f x) (2 ^ suc (suc i)) (8 * h) third-half
-      (sub-error f x y (suc (suc i)) a b p q o t (rw two-power (up-to-double (mag f x) u l U)))
+  difference_one : (x y : Float) → T (fits f x) → T (fits f y) → T (plain x) → T (plain y) → mag f y ≤ mag f x → T (finite (sub f x y)) → mag f x ≤ u → Apart (mag f (sub f x y) + mag f y) (mag f x) (8 * h)
+  difference_one x y a b p q o t l =
+      halved (mag f (sub f x y) + mag f y) (mag f x) (2 ^ suc (suc i)) (8 * h) third_half
+      (sub_error f x y (suc (suc i)) a b p q o t (rw two_power (up_to_double (mag f x) u l U)))
 
   pub sum_one : (x y : Float) → T (fits f x) → T (fits f y) → T (plain x) → T (plain y) → T (finite (add f x y)) → mag f x + mag f y < u → Apart (mag f (add f x y)) (mag f x + mag f y) (4 * h)
   sum_one x y a b p q t l =
-      halved (mag f (add f x y)) (mag f x + mag f y) (2 ^ suc i) (4 * h) second-half (add-error f x y (suc i) a b p q t (rw one_power l))
+      halved (mag f (add f x y)) (mag f x + mag f y) (2 ^ suc i) (4 * h) second_half (add_error f x y (suc i) a b p q t (rw one_power l))
 
   -- ---- a step c - y * r of a series: y is within 12 h of the exact p / v, r within E' of the exact (X - x) / D, and the rounded coefficient within h of 1 / k
   limits : (z e E : ℕ) → 425 + 16 * e ≤ 25 * E → 50 * (z + 2 * z + 8 * z) + 25 * (12 * z) + 32 * (e * z) ≤ 50 * (E * z)
@@ -96,4 +96,4 @@ module _ (f : Format) (i h : ℕ) (size : 2 ^ i ≡ 4 * h) (top : prec f + suc i
         → Near u (mag f (sub f c (mul f y r))) (q * W + p * x) (p * X) (D * v) (E * h)
     near_step v W F k q p X x D e E g w o m l n a b j N s =
         step u v W F k q p (mag f y) (mag f r) (mag f (mul f y r)) (mag f c) (mag f (sub f c (mul f y r))) X x D h (12 * h) (2 * h) (8 * h) (E * h) (e * h) U g w a b
-        (product-half y r fy fr py pr (plain-finite (mul f y r) pz) l n) (difference-one c (mul f y r) fc (mul-fits f y r) pc pz o t m) n j N (limits h e E s)
+        (product_half y r fy fr py pr (plain_finite (mul f y r) pz) l n) (difference_one c (mul f y r) fc (mul-fits f y r) pc pz o t m) n j N (limits h e E s)

@@ -12,20 +12,20 @@ use lib.Ieee.Scale.{finite}
 use Rattle.doubles.specs.Arithmetic.{◌⊕◌, ◌⊖◌}
 use Rattle.doubles.specs.Arithmetic as arithmetic
 use Rattle.doubles.specs.Distance.{Apart}
-use Rattle.doubles.proofs.Magnitude.{mag, mag-val, plain, plain-finite}
-use Rattle.doubles.proofs.Order.{mag-mono}
-use Rattle.doubles.proofs.ExactDifferences.{sub-exact}
+use Rattle.doubles.proofs.Magnitude.{mag, mag_val, plain, plain_finite}
+use Rattle.doubles.proofs.Order.{mag_mono}
+use Rattle.doubles.proofs.ExactDifferences.{sub_exact}
 use Rattle.approximations.specs.Circular.{H, half_h, L, complement_of, series, sine_series, cosine_series, sine_of, cosine_of}
-use Rattle.approximations.proofs.Laws.{sine-range, cosine-range}
-use Rattle.approximations.proofs.SeriesBounds.{H-fits, H-plain, L-fits, L-plain, largest_argument, H-two-halves, low-up-to, above, difference-up-to, parts-up-to, complement-up-to, to_one, sine-up-to, cosine-up-to, minus_zero, by-halves}
+use Rattle.approximations.proofs.Laws.{sine_range, cosine_range}
+use Rattle.approximations.proofs.SeriesBounds.{H-fits, H-plain, L-fits, L-plain, largest_argument, H-two-halves, low_up_to, above, difference_up_to, parts_up_to, complement_up_to, to_one, sine_up_to, cosine_up_to, minus_zero, by_halves}
 use Rattle.circular_law.specs.Law.{factorial, terms, parts, Within, CircularLaw}
 use Rattle.circular_law.proofs.Alternating.{side}
 use Rattle.circular_law.proofs.Steps.{Near}
 use Rattle.circular_law.proofs.FloatSteps.{sum_one}
 use Rattle.circular_law.proofs.Series.{scale, eighth, size_is}
-use Rattle.circular_law.proofs.AtPoint.{odd_quotients, even_quotients, NearSine, NearCosine, scale-some, largest_size, four-fifths, below, up-to-size, near-sine, near-cosine}
-use Rattle.circular_law.proofs.Quarter.{quarter, sine-turn, cosine-turn}
-use Rattle.circular_law.proofs.Terms.{sums, square-pow, terms-same, exponents, up_to}
+use Rattle.circular_law.proofs.AtPoint.{odd_quotients, even_quotients, NearSine, NearCosine, scale_some, largest_size, four_fifths, below, up_to_size, near_sine, near_cosine}
+use Rattle.circular_law.proofs.Quarter.{quarter, sine_turn, cosine_turn}
+use Rattle.circular_law.proofs.Terms.{sums, square_pow, terms_same, exponents, up_to}
 use Rattle.circular_law.proofs.Fractions.{across, beside, near_same, smaller, within, within_same}
 
 -- ---- a double's size over scale is its own fraction
@@ -33,23 +33,23 @@ value : (x : Float) → T (fits binary64 x) → T (finite x) → mag binary64 x 
 unfolding scale
 value nan f t = absurd t
 value (inf s) f t = absurd t
-value (fin s m e) f t = sym (mag-val binary64 (fin s m e) f t).1
+value (fin s m e) f t = sym (mag_val binary64 (fin s m e) f t).1
 
 -- ---- from the two sides of a sum at A / q to the definition's sums
-pow-one : (q : ℕ) → q ^ 1 ≡ q
-pow-one q = pow-succ' q 0 ∙ ap (λ (z : ℕ). q * z) (pow-zero q) ∙ mul_comm q 1 ∙ one-mul q
+pow_one : (q : ℕ) → q ^ 1 ≡ q
+pow_one q = pow-succ' q 0 ∙ ap (λ (z : ℕ). q * z) (pow-zero q) ∙ mul_comm q 1 ∙ one-mul q
 
-odd-side : (s : Bool) (A q : ℕ) → A * side s (A * A) (q * q) odd_quotients ≡ terms 25 A q (exponents s 1 13)
-odd-side s A q = ap (λ (z : ℕ). z * side s (A * A) (q * q) odd_quotients) (sym (pow-one A)) ∙ sums 25 A q s 1 13 refl
+odd_side : (s : Bool) (A q : ℕ) → A * side s (A * A) (q * q) odd_quotients ≡ terms 25 A q (exponents s 1 13)
+odd_side s A q = ap (λ (z : ℕ). z * side s (A * A) (q * q) odd_quotients) (sym (pow_one A)) ∙ sums 25 A q s 1 13 refl
 
-even-side : (s : Bool) (A q : ℕ) → side s (A * A) (q * q) even_quotients ≡ terms 24 A q (exponents s 0 13)
-even-side s A q = sym (ap (λ (z : ℕ). z * side s (A * A) (q * q) even_quotients) (pow-zero A) ∙ one-mul (side s (A * A) (q * q) even_quotients)) ∙ sums 24 A q s 0 13 refl
+even_side : (s : Bool) (A q : ℕ) → side s (A * A) (q * q) even_quotients ≡ terms 24 A q (exponents s 0 13)
+even_side s A q = sym (ap (λ (z : ℕ). z * side s (A * A) (q * q) even_quotients) (pow-zero A) ∙ one-mul (side s (A * A) (q * q) even_quotients)) ∙ sums 24 A q s 0 13 refl
 
-odd-whole : (F q : ℕ) → q * (F * (q * q) ^ 12) ≡ F * q ^ 25
-odd-whole F q = mul_left_comm q F ((q * q) ^ 12) ∙ ap (λ (z : ℕ). F * z) (ap (λ (z : ℕ). q * z) (square-pow q 12) ∙ sym (pow-succ' q 24))
+odd_whole : (F q : ℕ) → q * (F * (q * q) ^ 12) ≡ F * q ^ 25
+odd_whole F q = mul_left_comm q F ((q * q) ^ 12) ∙ ap (λ (z : ℕ). F * z) (ap (λ (z : ℕ). q * z) (square_pow q 12) ∙ sym (pow-succ' q 24))
 
-even-whole : (F q : ℕ) → F * (q * q) ^ 12 ≡ F * q ^ 24
-even-whole F q = ap (λ (z : ℕ). F * z) (square-pow q 12)
+even_whole : (F q : ℕ) → F * (q * q) ^ 12 ≡ F * q ^ 24
+even_whole F q = ap (λ (z : ℕ). F * z) (square_pow q 12)
 
 -- ---- r is within 1 / parts of the sum at a, by the fractions that the two doubles are
 abbrev WithinSums : ℕ → List ℕ → List ℕ → Float → Float → Type 0
@@ -62,74 +62,74 @@ abbrev WithinCosine : Float → Float → Type 0
 WithinCosine a r = WithinSums 24 (exponents true 0 13) (exponents false 0 13) a r
 
 module _ (a r : Float) (fa : T (fits binary64 a)) (ta : T (finite a)) (fr : T (fits binary64 r)) (tr : T (finite r)) (E : ℕ) (rate : E * parts ≤ scale) where
-  by-fractions : (n : ℕ) (es os : List ℕ) → T (up_to n es) → T (up_to n os) → Near scale (mag binary64 r) (terms n (mag binary64 a) scale es) (terms n (mag binary64 a) scale os) (factorial n * scale ^ n) E → WithinSums n es os a r
-  by-fractions n es os t o g =
+  by_fractions : (n : ℕ) (es os : List ℕ) → T (up_to n es) → T (up_to n os) → Near scale (mag binary64 r) (terms n (mag binary64 a) scale es) (terms n (mag binary64 a) scale os) (factorial n * scale ^ n) E → WithinSums n es os a r
+  by_fractions n es os t o g =
       let A = mag binary64 a in
       let v = value a fa ta in
       let F = factorial n in
-      let w = within scale (mag binary64 r) (terms n A scale es) (terms n A scale os) (F * scale ^ n) E (num r) (den r) scale-some (value r fr tr) rate g in
-      within_same (num r) (den r) (terms n A scale es) (terms n A scale os) (F * scale ^ n) (terms n (num a) (den a) es) (terms n (num a) (den a) os) (F * den a ^ n) (den a ^ n) (scale ^ n) (one-le-pow n scale scale-some)
-      (terms-same n A scale (num a) (den a) es t v) (terms-same n A scale (num a) (den a) os o v) (mul_right_comm F (scale ^ n) (den a ^ n)) w
+      let w = within scale (mag binary64 r) (terms n A scale es) (terms n A scale os) (F * scale ^ n) E (num r) (den r) scale_some (value r fr tr) rate g in
+      within_same (num r) (den r) (terms n A scale es) (terms n A scale os) (F * scale ^ n) (terms n (num a) (den a) es) (terms n (num a) (den a) os) (F * den a ^ n) (den a ^ n) (scale ^ n) (one-le-pow n scale scale_some)
+      (terms_same n A scale (num a) (den a) es t v) (terms_same n A scale (num a) (den a) os o v) (mul_right_comm F (scale ^ n) (den a ^ n)) w
 
-  to-sine : NearSine (mag binary64 r) (mag binary64 a) E → WithinSine a r
-  to-sine g =
+  to_sine : NearSine (mag binary64 r) (mag binary64 a) E → WithinSine a r
+  to_sine g =
       let A = mag binary64 a in
-      by-fractions 25 (exponents true 1 13) (exponents false 1 13) tt tt
+      by_fractions 25 (exponents true 1 13) (exponents false 1 13) tt tt
       (near_same scale (mag binary64 r) (A * side true (A * A) (scale * scale) odd_quotients) (A * side false (A * A) (scale * scale) odd_quotients) (scale * (factorial 25 * (scale * scale) ^ 12)) E _ _ _
-      (odd-side true A scale) (odd-side false A scale) (odd-whole (factorial 25) scale) g)
+      (odd_side true A scale) (odd_side false A scale) (odd_whole (factorial 25) scale) g)
 
-  to-cosine : NearCosine (mag binary64 r) (mag binary64 a) E → WithinCosine a r
-  to-cosine g =
+  to_cosine : NearCosine (mag binary64 r) (mag binary64 a) E → WithinCosine a r
+  to_cosine g =
       let A = mag binary64 a in
-      by-fractions 24 (exponents true 0 13) (exponents false 0 13) tt tt
+      by_fractions 24 (exponents true 0 13) (exponents false 0 13) tt tt
       (near_same scale (mag binary64 r) (side true (A * A) (scale * scale) even_quotients) (side false (A * A) (scale * scale) even_quotients) (factorial 24 * (scale * scale) ^ 12) E _ _ _
-      (even-side true A scale) (even-side false A scale) (even-whole (factorial 24) scale) g)
+      (even_side true A scale) (even_side false A scale) (even_whole (factorial 24) scale) g)
 
 -- ---- the errors are up to 1 / parts, 64 eighths: those of the two series, and with the 2 of the quarter turn
-sine-rate : 51 * eighth * parts ≤ scale
+sine_rate : 51 * eighth * parts ≤ scale
 unfolding scale eighth
-sine-rate = lit≤ tt
+sine_rate = lit≤ tt
 
-cosine-rate : 48 * eighth * parts ≤ scale
+cosine_rate : 48 * eighth * parts ≤ scale
 unfolding scale eighth
-cosine-rate = lit≤ tt
+cosine_rate = lit≤ tt
 
-sine-turn-rate : (51 * eighth + 2 * eighth) * parts ≤ scale
+sine_turn_rate : (51 * eighth + 2 * eighth) * parts ≤ scale
 unfolding scale eighth
-sine-turn-rate = lit≤ tt
+sine_turn_rate = lit≤ tt
 
-cosine-turn-rate : (48 * eighth + 2 * eighth) * parts ≤ scale
+cosine_turn_rate : (48 * eighth + 2 * eighth) * parts ≤ scale
 unfolding scale eighth
-cosine-turn-rate = lit≤ tt
+cosine_turn_rate = lit≤ tt
 
 -- ---- up to H / 2
 itself : (z e : ℕ) → Apart z z e
 itself z e = (le-add_right z e, le-add_right z e)
 
 module _ (a : Float) (fa : T (fits binary64 a)) (pa : T (plain a)) (l : T (le a half_h)) where
-  sine-low : WithinSine a (sine_series a)
-  sine-low =
-      let ub = low-up-to a fa pa l in
-      let r = sine-up-to a (to_one a ub) in
-      to-sine a (sine_series a) fa (plain-finite a pa) r.0 (plain-finite (sine_series a) r.1) (51 * eighth) sine-rate (near-sine a (mag binary64 a) ub (itself (mag binary64 a) (4 * eighth)) (up-to-size a ub))
+  sine_low : WithinSine a (sine_series a)
+  sine_low =
+      let ub = low_up_to a fa pa l in
+      let r = sine_up_to a (to_one a ub) in
+      to_sine a (sine_series a) fa (plain_finite a pa) r.0 (plain_finite (sine_series a) r.1) (51 * eighth) sine_rate (near_sine a (mag binary64 a) ub (itself (mag binary64 a) (4 * eighth)) (up_to_size a ub))
 
-  cosine-low : WithinCosine a (cosine_series a)
-  cosine-low =
-      let ub = low-up-to a fa pa l in
-      let r = cosine-up-to a (to_one a ub) in
-      to-cosine a (cosine_series a) fa (plain-finite a pa) r.0 (plain-finite (cosine_series a) r.1) (48 * eighth) cosine-rate (near-cosine a (mag binary64 a) ub (itself (mag binary64 a) (4 * eighth)) (up-to-size a ub))
+  cosine_low : WithinCosine a (cosine_series a)
+  cosine_low =
+      let ub = low_up_to a fa pa l in
+      let r = cosine_up_to a (to_one a ub) in
+      to_cosine a (cosine_series a) fa (plain_finite a pa) r.0 (plain_finite (cosine_series a) r.1) (48 * eighth) cosine_rate (near_cosine a (mag binary64 a) ub (itself (mag binary64 a) (4 * eighth)) (up_to_size a ub))
 
 -- ---- beyond: b = (H - a) + L, where H - a is exact
-sum-on-doubles : (x y : Float) → T (fits binary64 x) → T (fits binary64 y) → T (plain x) → T (plain y) → T (finite (x ⊕ y)) → mag binary64 x + mag binary64 y < scale
+sum_on_doubles : (x y : Float) → T (fits binary64 x) → T (fits binary64 y) → T (plain x) → T (plain y) → T (finite (x ⊕ y)) → mag binary64 x + mag binary64 y < scale
     → Apart (mag binary64 (x ⊕ y)) (mag binary64 x + mag binary64 y) (4 * eighth)
 unfolding scale
-sum-on-doubles = sum_one binary64 1020 eighth size_is refl
+sum_on_doubles = sum_one binary64 1020 eighth size_is refl
 
 twice : (x y c : ℕ) → x ≤ c + c → c ≤ y → x ≤ 2 * y
 twice x y c m n = omega arith
 
-whole-turn : (x y l : ℕ) → x ≤ y → x + (y - x + l) ≡ y + l
-whole-turn x y l m = omega arith
+whole_turn : (x y l : ℕ) → x ≤ y → x + (y - x + l) ≡ y + l
+whole_turn x y l m = omega arith
 
 -- cosine's denominator, taken 25 * z times, is sine's
 wholes : (z F G W : ℕ) → G ≡ 25 * F → 25 * z * (F * W) ≡ z * (G * W)
@@ -150,43 +150,43 @@ module _ (a : Float) (fa : T (fits binary64 a)) (pa : T (plain a)) (l : T (le a 
   p = mag binary64 H - A + mag binary64 L
 
   order : A ≤ mag binary64 H
-  order = mag-mono binary64 a H fa H-fits pa H-plain l
+  order = mag_mono binary64 a H fa H-fits pa H-plain l
 
   turn : A + p ≡ quarter
   unfolding quarter
-  turn = whole-turn A (mag binary64 H) (mag binary64 L) order
+  turn = whole_turn A (mag binary64 H) (mag binary64 L) order
 
   exact : mag binary64 (H ⊖ a) ≡ mag binary64 H - A
-  exact = sub-exact binary64 H a H-fits fa H-plain pa order (twice (mag binary64 H) A (mag binary64 half_h) H-two-halves (above a fa pa n))
+  exact = sub_exact binary64 H a H-fits fa H-plain pa order (twice (mag binary64 H) A (mag binary64 half_h) H-two-halves (above a fa pa n))
 
   small : 5 * p ≤ 4 * scale
   small =
       subst (λ (z : ℕ). 5 * (z + mag binary64 L) ≤ 4 * scale) exact
-      (four-fifths (mag binary64 (H ⊖ a) + mag binary64 L) (mag binary64 largest_argument) scale largest_size (parts-up-to a fa pa l n))
+      (four_fifths (mag binary64 (H ⊖ a) + mag binary64 L) (mag binary64 largest_argument) scale largest_size (parts_up_to a fa pa l n))
 
   near : Apart (mag binary64 (complement_of a)) p (4 * eighth)
   near =
-      let r = difference-up-to a fa pa l n in
-      let b = complement-up-to a fa pa l n in
+      let r = difference_up_to a fa pa l n in
+      let b = complement_up_to a fa pa l n in
       subst (λ (z : ℕ). Apart (mag binary64 (complement_of a)) (z + mag binary64 L) (4 * eighth)) exact
-      (sum-on-doubles (H ⊖ a) L r.0 L-fits r.1 L-plain (plain-finite (complement_of a) b.1) (subst (λ (z : ℕ). z + mag binary64 L < scale) (sym exact) (below p scale scale-some small)))
+      (sum_on_doubles (H ⊖ a) L r.0 L-fits r.1 L-plain (plain_finite (complement_of a) b.1) (subst (λ (z : ℕ). z + mag binary64 L < scale) (sym exact) (below p scale scale_some small)))
 
-  sine-high : WithinSine a (cosine_series (complement_of a))
-  sine-high =
+  sine_high : WithinSine a (cosine_series (complement_of a))
+  sine_high =
       let b = complement_of a in
-      let ub = complement-up-to a fa pa l n in
-      let r = cosine-up-to b (to_one b ub) in
+      let ub = complement_up_to a fa pa l n in
+      let r = cosine_up_to b (to_one b ub) in
       let W = factorial 25 * (scale * scale) ^ 12 in
-      to-sine a (cosine_series b) fa (plain-finite a pa) r.0 (plain-finite (cosine_series b) r.1) (48 * eighth + 2 * eighth) cosine-turn-rate
+      to_sine a (cosine_series b) fa (plain_finite a pa) r.0 (plain_finite (cosine_series b) r.1) (48 * eighth + 2 * eighth) cosine_turn_rate
       (across scale (mag binary64 (cosine_series b)) (side true (p * p) (scale * scale) even_quotients) (side false (p * p) (scale * scale) even_quotients) (factorial 24 * (scale * scale) ^ 12)
       (A * side true (A * A) (scale * scale) odd_quotients) (A * side false (A * A) (scale * scale) odd_quotients) (25 * scale) (48 * eighth) (2 * eighth) W
-      (near-cosine b p ub near small) (sine-turn A p turn small) (whole_is scale ((scale * scale) ^ 12)))
+      (near_cosine b p ub near small) (sine_turn A p turn small) (whole_is scale ((scale * scale) ^ 12)))
 
-  cosine-high : WithinCosine a (sine_series (complement_of a))
-  cosine-high =
+  cosine_high : WithinCosine a (sine_series (complement_of a))
+  cosine_high =
       let b = complement_of a in
-      let ub = complement-up-to a fa pa l n in
-      let r = sine-up-to b (to_one b ub) in
+      let ub = complement_up_to a fa pa l n in
+      let r = sine_up_to b (to_one b ub) in
       let R = mag binary64 (sine_series b) in
       let c = side true (A * A) (scale * scale) even_quotients in
       let d = side false (A * A) (scale * scale) even_quotients in
@@ -194,31 +194,31 @@ module _ (a : Float) (fa : T (fits binary64 a)) (pa : T (plain a)) (l : T (le a 
       let D = factorial 24 * (scale * scale) ^ 12 in
       let W = factorial 25 * (scale * scale) ^ 12 in
       let E = 51 * eighth + 2 * eighth in
-      to-cosine a (sine_series b) fa (plain-finite a pa) r.0 (plain-finite (sine_series b) r.1) E sine-turn-rate
-      (smaller scale R c d D s E (some_more scale scale-some)
+      to_cosine a (sine_series b) fa (plain_finite a pa) r.0 (plain_finite (sine_series b) r.1) E sine_turn_rate
+      (smaller scale R c d D s E (some_more scale scale_some)
       (near_same scale R (s * c) (s * d) (scale * W) E (s * c) (s * d) (s * D) refl refl (sym (whole_is scale ((scale * scale) ^ 12)))
       (beside scale R (p * side true (p * p) (scale * scale) odd_quotients) (p * side false (p * p) (scale * scale) odd_quotients) (s * c) (s * d) (51 * eighth) (2 * eighth) W
-      (near-sine b p ub near small) (cosine-turn A p turn small))))
+      (near_sine b p ub near small) (cosine_turn A p turn small))))
 
 -- ---- sine and cosine
-sine-minus-zero : WithinSine minus_zero (sine_of minus_zero)
+sine_minus_zero : WithinSine minus_zero (sine_of minus_zero)
 unfolding sine_of sine_series series round div of_int mul sub add sum neg le
-sine-minus-zero = (lit≤ tt, lit≤ tt)
+sine_minus_zero = (lit≤ tt, lit≤ tt)
 
-cosine-minus-zero : WithinCosine minus_zero (cosine_of minus_zero)
+cosine_minus_zero : WithinCosine minus_zero (cosine_of minus_zero)
 unfolding cosine_of cosine_series series round div of_int mul sub add sum neg le
-cosine-minus-zero = (lit≤ tt, lit≤ tt)
+cosine_minus_zero = (lit≤ tt, lit≤ tt)
 
-sine-within : (a : Float) → T (fits binary64 a) → T (le arithmetic.zero64 a) → T (le a H) → WithinSine a (sine_of a)
+sine_within : (a : Float) → T (fits binary64 a) → T (le arithmetic.zero64 a) → T (le a H) → WithinSine a (sine_of a)
 unfolding sine_of
-sine-within = by-halves sine_series cosine_series WithinSine sine-low sine-high sine-minus-zero
+sine_within = by_halves sine_series cosine_series WithinSine sine_low sine_high sine_minus_zero
 
-cosine-within : (a : Float) → T (fits binary64 a) → T (le arithmetic.zero64 a) → T (le a H) → WithinCosine a (cosine_of a)
+cosine_within : (a : Float) → T (fits binary64 a) → T (le arithmetic.zero64 a) → T (le a H) → WithinCosine a (cosine_of a)
 unfolding cosine_of
-cosine-within = by-halves cosine_series sine_series WithinCosine cosine-low cosine-high cosine-minus-zero
+cosine_within = by_halves cosine_series sine_series WithinCosine cosine_low cosine_high cosine_minus_zero
 
 pub law : CircularLaw
 law a f lo hi =
-    let s = sine-range a f lo hi in
-    let c = cosine-range a f lo hi in
-    ((s.0, s.1, sine-within a f lo hi), (c.0, c.1, cosine-within a f lo hi))
+    let s = sine_range a f lo hi in
+    let c = cosine_range a f lo hi in
+    ((s.0, s.1, sine_within a f lo hi), (c.0, c.1, cosine_within a f lo hi))

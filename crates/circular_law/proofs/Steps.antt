@@ -4,7 +4,7 @@ use Prim.Native.Nat.{ℕ, ◌+◌, ◌*◌, ◌≤◌, ◌<◌}
 use native.Mathlib.Nat.{mul-le-mul_right, add-mul}
 use native.Mathlib.Omega.{arith}
 use Rattle.doubles.specs.Distance.{Apart}
-use Rattle.doubles.proofs.Errors.{apart-mul, apart-cancel}
+use Rattle.doubles.proofs.Errors.{apart_mul, apart_cancel}
 
 -- R / u is within E / u of (X - x) / D
 abbrev pub Near : ℕ → ℕ → ℕ → ℕ → ℕ → ℕ → Type 0
@@ -18,7 +18,7 @@ product u v y Y R Z e d U h k l =
     let c = mul-le-mul_right (2 * v) k.0 in
     let g = mul-le-mul_right (2 * v) k.1 in
     let m = mul-le-mul_right (e * v) l in
-    apart-cancel u (2 * (y * R)) (2 * (Z * v)) ((e + 2 * d) * v) U (omega arith)
+    apart_cancel u (2 * (y * R)) (2 * (Z * v)) ((e + 2 * d) * v) U (omega arith)
 
 -- ---- one step: c - y * t. D is the denominator of t and D * v = F * W that of the result; c stands for 1 / k, where c * k = F
 
@@ -51,14 +51,14 @@ module _ (u v W F k c y Y R Z C Q X x D e₁ e₂ e₃ e₄ E E' : ℕ) (U : 0 <
   step a b d g l m n s =
       let d' = D * v in
       let A : Apart (C * d') (c * W * u) (e₁ * d') = rw whole (coefficient u k c F W C e₁ f a) in
-      let G : Apart (Q * d' + Z * d') (C * d') (e₄ * d') = rw (← add-mul Q Z d') (apart-mul d' (Q + Z) C e₄ g) in
+      let G : Apart (Q * d' + Z * d') (C * d') (e₄ * d') = rw (← add-mul Q Z d') (apart_mul d' (Q + Z) C e₄ g) in
       rw (add-mul (c * W) (y * x) u)
       (together (Q * d') (Z * d') (C * d') (c * W * u) (y * X * u) (y * x * u) (y * R * D) (e₁ * d') ((e₂ + 2 * e₃) * d') (e₄ * d') (E' * d') (E * d') A G
       (scaled y R Z v (e₂ + 2 * e₃) D (product u v y Y R Z e₂ e₃ U b d l)) (rest u y v R X x D E' m n) (bounds e₁ e₂ e₃ e₄ E' E d' s))
 
 -- ---- the square: b = B / u is d / u from p / u, both are up to 4 / 5, and Y is the square of b, rounded
-square-near : (u B p d : ℕ) → Apart B p d → 5 * B ≤ 4 * u → 5 * p ≤ 4 * u → Apart (5 * (B * B)) (5 * (p * p)) (8 * (d * u))
-square-near u B p d h k l =
+square_near : (u B p d : ℕ) → Apart B p d → 5 * B ≤ 4 * u → 5 * p ≤ 4 * u → Apart (5 * (B * B)) (5 * (p * p)) (8 * (d * u))
+square_near u B p d h k l =
     let a = mul-le-mul_right (5 * B) h.0 in
     let b = mul-le-mul_right (5 * B) h.1 in
     let c = mul-le-mul_right (5 * p) h.0 in
@@ -68,7 +68,7 @@ square-near u B p d h k l =
     omega arith
 
 pub square : (u B p Y d e : ℕ) → Apart B p d → 5 * B ≤ 4 * u → 5 * p ≤ 4 * u → Apart (Y * u) (B * B) (e * u) → Apart (Y * (u * u)) (p * p * u) ((e + 2 * d) * (u * u))
-square u B p Y d e h k l r = go (square-near u B p d h k l)
+square u B p Y d e h k l r = go (square_near u B p d h k l)
   where
     go : Apart (5 * (B * B)) (5 * (p * p)) (8 * (d * u)) → Apart (Y * (u * u)) (p * p * u) ((e + 2 * d) * (u * u))
     go s =

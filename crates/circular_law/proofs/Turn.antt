@@ -28,26 +28,26 @@ gaps [] m = m
 gaps (a ∷ l) [] = a ∷ l
 gaps (a ∷ l) (b ∷ m) = (a - b + (b - a)) ∷ gaps l m
 
-at-plus : (l m : List ℕ) (x : ℕ) → at (plus l m) x ≡ at l x + at m x
-at-plus [] m x = omega arith
-at-plus (a ∷ l) [] x = omega arith
-at-plus (a ∷ l) (b ∷ m) x = let e = at-plus l m x in rw e (omega arith)
+at_plus : (l m : List ℕ) (x : ℕ) → at (plus l m) x ≡ at l x + at m x
+at_plus [] m x = omega arith
+at_plus (a ∷ l) [] x = omega arith
+at_plus (a ∷ l) (b ∷ m) x = let e = at_plus l m x in rw e (omega arith)
 
-at-times : (c : ℕ) (l : List ℕ) (x : ℕ) → at (times c l) x ≡ c * at l x
-at-times c [] x = omega arith
-at-times c (a ∷ l) x = let e = at-times c l x in rw e (omega arith)
+at_times : (c : ℕ) (l : List ℕ) (x : ℕ) → at (times c l) x ≡ c * at l x
+at_times c [] x = omega arith
+at_times c (a ∷ l) x = let e = at_times c l x in rw e (omega arith)
 
-at-mono : (l : List ℕ) (x z : ℕ) → x ≤ z → at l x ≤ at l z
-at-mono [] x z h = zero-le
-at-mono (a ∷ l) x z h = let k = mul-le-mul h (at-mono l x z h) in omega arith
+at_mono : (l : List ℕ) (x z : ℕ) → x ≤ z → at l x ≤ at l z
+at_mono [] x z h = zero-le
+at_mono (a ∷ l) x z h = let k = mul-le-mul h (at_mono l x z h) in omega arith
 
-one-gap : (a b x s t g : ℕ) → Apart s t g → Apart (a + x * s) (b + x * t) (a - b + (b - a) + x * g)
-one-gap a b x s t g h = let k = mul-le-mul_right x h.0 in let l = mul-le-mul_right x h.1 in omega arith
+one_gap : (a b x s t g : ℕ) → Apart s t g → Apart (a + x * s) (b + x * t) (a - b + (b - a) + x * g)
+one_gap a b x s t g h = let k = mul-le-mul_right x h.0 in let l = mul-le-mul_right x h.1 in omega arith
 
-at-gaps : (l m : List ℕ) (x : ℕ) → Apart (at l x) (at m x) (at (gaps l m) x)
-at-gaps [] m x = omega arith
-at-gaps (a ∷ l) [] x = omega arith
-at-gaps (a ∷ l) (b ∷ m) x = one-gap a b x (at l x) (at m x) (at (gaps l m) x) (at-gaps l m x)
+at_gaps : (l m : List ℕ) (x : ℕ) → Apart (at l x) (at m x) (at (gaps l m) x)
+at_gaps [] m x = omega arith
+at_gaps (a ∷ l) [] x = omega arith
+at_gaps (a ∷ l) (b ∷ m) x = one_gap a b x (at l x) (at m x) (at (gaps l m) x) (at_gaps l m x)
 
 -- ---- lists of differences
 abbrev pub Differences : Type 0
@@ -69,13 +69,13 @@ turned P (d ∷ g) = let r = turned P g in (plus (d.0 ∷ r.1) (times P r.0), pl
 around : (a b A p s t y z : ℕ) → s + z ≡ t + y → a + p * t + (A + p) * s + (b + A * z) ≡ b + p * s + (A + p) * t + (a + A * y)
 around a b A p s t y z h = let e = ap (λ (w : ℕ). A * w) h in omega arith
 
-at-turned : (A p : ℕ) (g : Differences) → at (turned (A + p) g).0 p + at (taken g) A ≡ at (turned (A + p) g).1 p + at (added g) A
-at-turned A p [] = refl
-at-turned A p (d ∷ g) =
+at_turned : (A p : ℕ) (g : Differences) → at (turned (A + p) g).0 p + at (taken g) A ≡ at (turned (A + p) g).1 p + at (added g) A
+at_turned A p [] = refl
+at_turned A p (d ∷ g) =
     let P = A + p in
     let r = turned P g in
-    rw (at-plus (d.0 ∷ r.1) (times P r.0) p, at-plus (d.1 ∷ r.0) (times P r.1) p, at-times P r.0 p, at-times P r.1 p)
-    (around d.0 d.1 A p (at r.0 p) (at r.1 p) (at (added g) A) (at (taken g) A) (at-turned A p g))
+    rw (at_plus (d.0 ∷ r.1) (times P r.0) p, at_plus (d.1 ∷ r.0) (times P r.1) p, at_times P r.0 p, at_times P r.1 p)
+    (around d.0 d.1 A p (at r.0 p) (at r.1 p) (at (added g) A) (at (taken g) A) (at_turned A p g))
 
 -- ---- g at A = P - p beside k at p, for every p up to M: no further apart than the gaps between the coefficients at M
 abbrev pub away : ℕ → ℕ → Differences → Differences → ℕ
@@ -84,17 +84,17 @@ away P M g k = let r = turned P g in at (gaps (plus r.0 (taken k)) (plus r.1 (ad
 through : (s t y z v w g e : ℕ) → Apart (s + w) (t + v) g → s + z ≡ t + y → g ≤ e → Apart (y + w) (v + z) e
 through s t y z v w g e a h l = omega arith
 
-turn-bound : (A p M e : ℕ) (g k : Differences) → p ≤ M → away (A + p) M g k ≤ e → Apart (at (added g) A + at (taken k) p) (at (added k) p + at (taken g) A) e
-turn-bound A p M e g k l h =
+turn_bound : (A p M e : ℕ) (g k : Differences) → p ≤ M → away (A + p) M g k ≤ e → Apart (at (added g) A + at (taken k) p) (at (added k) p + at (taken g) A) e
+turn_bound A p M e g k l h =
     let r = turned (A + p) g in
     let a = plus r.0 (taken k) in
     let b = plus r.1 (added k) in
     through (at r.0 p) (at r.1 p) (at (added g) A) (at (taken g) A) (at (added k) p) (at (taken k) p) (at (gaps a b) p) e
-    (rw (at-plus r.0 (taken k) p, at-plus r.1 (added k) p) at (at-gaps a b p)) (at-turned A p g) (le_trans (at-mono (gaps a b) p M l) h)
+    (rw (at_plus r.0 (taken k) p, at_plus r.1 (added k) p) at (at_gaps a b p)) (at_turned A p g) (le_trans (at_mono (gaps a b) p M l) h)
 
 pub turn_at : (P A p M e : ℕ) (g k : Differences) (a b c d : ℕ) → A + p ≡ P → p ≤ M → away P M g k ≤ e → at (added g) A ≡ a → at (taken k) p ≡ b → at (added k) p ≡ c → at (taken g) A ≡ d → Apart (a + b) (c + d) e
 turn_at P A p M e g k a b c d t l h q r s o =
-    let m = turn-bound A p M e g k l (subst (λ (z : ℕ). away z M g k ≤ e) (sym t) h) in
+    let m = turn_bound A p M e g k l (subst (λ (z : ℕ). away z M g k ≤ e) (sym t) h) in
     swap (at (added g) A) a (at (taken k) p) b (at (added k) p) c (at (taken g) A) d m q r s o
   where
     swap : (x a y b z c w d : ℕ) → Apart (x + y) (z + w) e → x ≡ a → y ≡ b → z ≡ c → w ≡ d → Apart (a + b) (c + d) e
@@ -118,11 +118,11 @@ pub record Spread (c v x : ℕ) (l : List ℕ) : Type 0 where
   pub up' : at (added (spread c v false l)) x ≡ c * side false (x * x) v l
   pub down' : at (taken (spread c v false l)) x ≡ c * side true (x * x) v l
 
-pub at-spread : (c v x : ℕ) (l : List ℕ) → Spread c v x l
+pub at_spread : (c v x : ℕ) (l : List ℕ) → Spread c v x l
 unfolding side
-at-spread c v x [] = let e : 0 ≡ c * 0 = omega arith in record { up = e; down = e; up' = e; down' = e }
-at-spread c v x (a ∷ l) =
-    let r = at-spread c v x l in
+at_spread c v x [] = let e : 0 ≡ c * 0 = omega arith in record { up = e; down = e; up' = e; down' = e }
+at_spread c v x (a ∷ l) =
+    let r = at_spread c v x l in
     let w = a * v ^ length l in
     record {
       up = rw r.up' (keep c w x (side false (x * x) v l));

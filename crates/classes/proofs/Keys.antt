@@ -14,12 +14,12 @@ Each P [] = Unit {0}
 Each P (k ∷ ks) = P k × Each P ks
 
 -- what f gives at each key it gives at n
-pub at-keys : {A : Type 0} (f : ℕ → A) (r : A) (n : ℕ) (ks : List ℕ) → Each (λ k. f k ≡ r) ks → OneOf ks n → r ≡ f n
-at-keys f r n [] e h = absurd h
-at-keys f r n (k ∷ []) e h = sym (ap f h ∙ e.0)
-at-keys f r n (k ∷ k' ∷ ks) e h = ⊎_elim (λ q. sym (ap f q ∙ e.0)) (λ q. at-keys f r n (k' ∷ ks) e.1 q) h
+pub at_keys : {A : Type 0} (f : ℕ → A) (r : A) (n : ℕ) (ks : List ℕ) → Each (λ k. f k ≡ r) ks → OneOf ks n → r ≡ f n
+at_keys f r n [] e h = absurd h
+at_keys f r n (k ∷ []) e h = sym (ap f h ∙ e.0)
+at_keys f r n (k ∷ k' ∷ ks) e h = ⊎_elim (λ q. sym (ap f q ∙ e.0)) (λ q. at_keys f r n (k' ∷ ks) e.1 q) h
 
-pub not-one : (n : ℕ) (ks : List ℕ) → (OneOf ks n → ⊥) → elem n ks ≡ false
-not-one n [] h = refl
-not-one n (k ∷ []) h = rw (ne_eqb k n (λ q. h (sym q)))
-not-one n (k ∷ k' ∷ ks) h = rw (ne_eqb k n (λ q. h (inl (sym q)))) (not-one n (k' ∷ ks) (λ q. h (inr q)))
+pub not_one : (n : ℕ) (ks : List ℕ) → (OneOf ks n → ⊥) → elem n ks ≡ false
+not_one n [] h = refl
+not_one n (k ∷ []) h = rw (ne_eqb k n (λ q. h (sym q)))
+not_one n (k ∷ k' ∷ ks) h = rw (ne_eqb k n (λ q. h (inl (sym q)))) (not_one n (k' ∷ ks) (λ q. h (inr q)))

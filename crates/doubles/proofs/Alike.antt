@@ -5,8 +5,8 @@ use lib.Ieee.{Float, nan, inf, fin, binary64, up, down, round, sum, add, sub, ne
 use lib.Ieee.Fits.{up_pos, down_pos}
 use mir.Facts.{and_yes, or_yes}
 use Rattle.doubles.specs.Arithmetic.{◌⊖◌}
-use Rattle.doubles.proofs.Magnitude.{same-value}
-use Rattle.doubles.proofs.Fractions.{sum-plain, sum-turned}
+use Rattle.doubles.proofs.Magnitude.{same_value}
+use Rattle.doubles.proofs.Fractions.{sum_plain, sum_turned}
 use Rattle.doubles.proofs.AddZero.{zero_is}
 
 -- ---- the two zeros
@@ -26,15 +26,15 @@ blind P e x y (zeros true false) = e
 blind P e x y (zeros false true) = sym e
 blind P e x y (zeros false false) = refl
 
-pub alike-path : {x y : Float} → x ≡ y → Alike x y
-alike-path {x} e = subst (Alike x) e (same x)
+pub alike_path : {x y : Float} → x ≡ y → Alike x y
+alike_path {x} e = subst (Alike x) e (same x)
 
 -- ---- doubles that are equal as numbers are alike
-same-signs : (s t : Bool) → T (beq s t) → s ≡ t
-same-signs true true h = refl
-same-signs true false h = absurd h
-same-signs false true h = absurd h
-same-signs false false h = refl
+same_signs : (s t : Bool) → T (beq s t) → s ≡ t
+same_signs true true h = refl
+same_signs true false h = absurd h
+same_signs false true h = absurd h
+same_signs false false h = refl
 
 -- a size of 0 is that of a zero
 no_size : (s : Bool) (m : ℕ) (e g : ℤ) → T (fits binary64 (fin s m e)) → m * up e * down g ≡ 0 → fin s m e ≡ signed s
@@ -45,13 +45,13 @@ pub alike_of : (x y : Float) → T (fits binary64 x) → T (fits binary64 y) →
 unfolding eq
 alike_of nan y h k q = absurd q
 alike_of (inf s) nan h k q = absurd q
-alike_of (inf s) (inf t) h k q = alike-path (ap inf (same-signs s t q))
+alike_of (inf s) (inf t) h k q = alike_path (ap inf (same_signs s t q))
 alike_of (inf s) (fin t n d) h k q = absurd q
 alike_of (fin s m e) nan h k q = absurd q
 alike_of (fin s m e) (inf t) h k q = absurd q
 alike_of (fin s m e) (fin t n d) h k q =
     ⊎_elim
-    (λ u. alike-path (same-value binary64 (fin s m e) (fin t n d) t (n * up d) (down d) (down_pos d) h k (same-signs s t u, z) (refl, refl)))
+    (λ u. alike_path (same_value binary64 (fin s m e) (fin t n d) t (n * up d) (down d) (down_pos d) h k (same_signs s t u, z) (refl, refl)))
     (λ u.
     let r = eqb→eq A 0 u in
     rw (no_size s m e d h r, no_size t n d e k (sym z ∙ r)) (zeros s t))
@@ -83,100 +83,100 @@ below_right : (s : Bool) (a b : ℕ) → b ≡ 0 → below s a true b ≡ below 
 below_right true a b e = rw (e, add-zero)
 below_right false a b e = rw e (sym (le-ltb a 0 (omega arith)))
 
-level-left : (a : ℕ) (t : Bool) (b : ℕ) → a ≡ 0 → level true a t b ≡ level false a t b
-level-left a true b e = rw e
-level-left a false b e = rw e
+level_left : (a : ℕ) (t : Bool) (b : ℕ) → a ≡ 0 → level true a t b ≡ level false a t b
+level_left a true b e = rw e
+level_left a false b e = rw e
 
-level-right : (s : Bool) (a b : ℕ) → b ≡ 0 → level s a true b ≡ level s a false b
-level-right s a b e = rw e (absorbed (eqb a 0) (beq s true) ∙ sym (absorbed (eqb a 0) (beq s false)))
+level_right : (s : Bool) (a b : ℕ) → b ≡ 0 → level s a true b ≡ level s a false b
+level_right s a b e = rw e (absorbed (eqb a 0) (beq s true) ∙ sym (absorbed (eqb a 0) (beq s false)))
   where
     absorbed : (c y : Bool) → (c && (y || c)) ≡ c
     absorbed true true = refl
     absorbed true false = refl
     absorbed false y = refl
 
-lt-left : (u : Float) → lt (signed true) u ≡ lt (signed false) u
+lt_left : (u : Float) → lt (signed true) u ≡ lt (signed false) u
 unfolding lt
-lt-left nan = refl
-lt-left (inf t) = refl
-lt-left (fin t n d) = below_left (0 * 1 * down d) t (n * up d * 1) (none (down d))
+lt_left nan = refl
+lt_left (inf t) = refl
+lt_left (fin t n d) = below_left (0 * 1 * down d) t (n * up d * 1) (none (down d))
 
-lt-right : (u : Float) → lt u (signed true) ≡ lt u (signed false)
+lt_right : (u : Float) → lt u (signed true) ≡ lt u (signed false)
 unfolding lt
-lt-right nan = refl
-lt-right (inf t) = refl
-lt-right (fin t n d) = below_right t (n * up d * 1) (0 * 1 * down d) (none (down d))
+lt_right nan = refl
+lt_right (inf t) = refl
+lt_right (fin t n d) = below_right t (n * up d * 1) (0 * 1 * down d) (none (down d))
 
-eq-left : (u : Float) → eq (signed true) u ≡ eq (signed false) u
+eq_left : (u : Float) → eq (signed true) u ≡ eq (signed false) u
 unfolding eq
-eq-left nan = refl
-eq-left (inf t) = refl
-eq-left (fin t n d) = level-left (0 * 1 * down d) t (n * up d * 1) (none (down d))
+eq_left nan = refl
+eq_left (inf t) = refl
+eq_left (fin t n d) = level_left (0 * 1 * down d) t (n * up d * 1) (none (down d))
 
-eq-right : (u : Float) → eq u (signed true) ≡ eq u (signed false)
+eq_right : (u : Float) → eq u (signed true) ≡ eq u (signed false)
 unfolding eq
-eq-right nan = refl
-eq-right (inf t) = refl
-eq-right (fin t n d) = level-right t (n * up d * 1) (0 * 1 * down d) (none (down d))
+eq_right nan = refl
+eq_right (inf t) = refl
+eq_right (fin t n d) = level_right t (n * up d * 1) (0 * 1 * down d) (none (down d))
 
 module _ (x y : Float) (w : Alike x y) (u : Float) where
   pub lt_same : lt x u ≡ lt y u
-  lt_same = blind (λ z. lt z u) (lt-left u) x y w
+  lt_same = blind (λ z. lt z u) (lt_left u) x y w
 
-  pub same-lt : lt u x ≡ lt u y
-  same-lt = blind (λ z. lt u z) (lt-right u) x y w
+  pub same_lt : lt u x ≡ lt u y
+  same_lt = blind (λ z. lt u z) (lt_right u) x y w
 
   pub le_same : le x u ≡ le y u
   unfolding le
-  le_same = blind (λ z. lt z u || eq z u) (ap₂ ◌||◌ (lt-left u) (eq-left u)) x y w
+  le_same = blind (λ z. lt z u || eq z u) (ap₂ ◌||◌ (lt_left u) (eq_left u)) x y w
 
-  pub same-le : le u x ≡ le u y
+  pub same_le : le u x ≡ le u y
   unfolding le
-  same-le = blind (λ z. lt u z || eq u z) (ap₂ ◌||◌ (lt-right u) (eq-right u)) x y w
+  same_le = blind (λ z. lt u z || eq u z) (ap₂ ◌||◌ (lt_right u) (eq_right u)) x y w
 
 -- ---- differences
-sum-right : (a b c : ℕ) → b ≡ 0 → sum binary64 false a false b c ≡ sum binary64 false a true b c
+sum_right : (a b c : ℕ) → b ≡ 0 → sum binary64 false a false b c ≡ sum binary64 false a true b c
 unfolding sum
-sum-right a b c e =
+sum_right a b c e =
     let q : a + b ≡ a - b = omega arith in
-    ap (λ (z : ℕ). round binary64 false z c) q ∙ sym (sum-plain binary64 a b c (omega arith))
+    ap (λ (z : ℕ). round binary64 false z c) q ∙ sym (sum_plain binary64 a b c (omega arith))
 
 sum_left : (a b c : ℕ) → a ≡ 0 → a < b → sum binary64 true a false b c ≡ sum binary64 false a false b c
 unfolding sum
 sum_left a b c e l =
     let q : b - a ≡ a + b = omega arith in
-    sum-turned binary64 a b c (omega arith) ∙ ap (λ (z : ℕ). round binary64 false z c) q
+    sum_turned binary64 a b c (omega arith) ∙ ap (λ (z : ℕ). round binary64 false z c) q
 
 -- a zero from what is above it, and what is below a zero from it
-sub-right : (x : Float) → T (lt (signed false) x) → x ⊖ signed true ≡ x ⊖ signed false
+sub_right : (x : Float) → T (lt (signed false) x) → x ⊖ signed true ≡ x ⊖ signed false
 unfolding lt sub add neg
-sub-right nan h = refl
-sub-right (inf t) h = refl
-sub-right (fin true n d) h = absurd h
-sub-right (fin false n d) h = sum-right (n * up d * 1) (0 * 1 * down d) (down d * 1) (none (down d))
+sub_right nan h = refl
+sub_right (inf t) h = refl
+sub_right (fin true n d) h = absurd h
+sub_right (fin false n d) h = sum_right (n * up d * 1) (0 * 1 * down d) (down d * 1) (none (down d))
 
-sub-left : (y : Float) → T (lt y (signed false)) → signed true ⊖ y ≡ signed false ⊖ y
+sub_left : (y : Float) → T (lt y (signed false)) → signed true ⊖ y ≡ signed false ⊖ y
 unfolding lt sub add neg
-sub-left nan h = refl
-sub-left (inf t) h = refl
-sub-left (fin false n d) h =
+sub_left nan h = refl
+sub_left (inf t) h = refl
+sub_left (fin false n d) h =
     let l = ltb→lt (n * up d * 1) (0 * 1 * down d) h in
     absurd (omega (arith, none (down d)))
-sub-left (fin true n d) h =
+sub_left (fin true n d) h =
     let l = ltb→lt 0 (n * up d * 1 + 0 * 1 * down d) h in
     sum_left (0 * 1 * down d) (n * up d * 1) (1 * down d) (none (down d)) (omega (arith, none (down d)))
 
 -- two zeros are not one below the other
-level-zeros : (s t : Bool) → T (lt (signed s) (signed t)) → ⊥
+level_zeros : (s t : Bool) → T (lt (signed s) (signed t)) → ⊥
 unfolding lt
-level-zeros true true h = h
-level-zeros true false h = h
-level-zeros false true h = h
-level-zeros false false h = h
+level_zeros true true h = h
+level_zeros true false h = h
+level_zeros false true h = h
+level_zeros false false h = h
 
 -- of unequal numbers
 pub sub_same : (x x' y y' : Float) → Alike x x' → Alike y y' → T (lt y x) → x ⊖ y ≡ x' ⊖ y'
 sub_same x x' y y' (same z) (same w) h = refl
-sub_same x x' y y' (same z) (zeros s t) h = blind (λ w. z ⊖ w) (sub-right z (rw (lt_same (signed s) (signed false) (zeros s false) z) at h)) (signed s) (signed t) (zeros s t)
-sub_same x x' y y' (zeros s t) (same w) h = blind (λ z. z ⊖ w) (sub-left w (rw (same-lt (signed s) (signed false) (zeros s false) w) at h)) (signed s) (signed t) (zeros s t)
-sub_same x x' y y' (zeros s t) (zeros p q) h = absurd (level-zeros p s h)
+sub_same x x' y y' (same z) (zeros s t) h = blind (λ w. z ⊖ w) (sub_right z (rw (lt_same (signed s) (signed false) (zeros s false) z) at h)) (signed s) (signed t) (zeros s t)
+sub_same x x' y y' (zeros s t) (same w) h = blind (λ z. z ⊖ w) (sub_left w (rw (same_lt (signed s) (signed false) (zeros s false) w) at h)) (signed s) (signed t) (zeros s t)
+sub_same x x' y y' (zeros s t) (zeros p q) h = absurd (level_zeros p s h)

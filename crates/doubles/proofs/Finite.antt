@@ -3,13 +3,13 @@ use Rattle.std.proofs.Common.{◌≡◌, true, false, ◌&&◌, refl}
 use lib.Ieee.{Float, nan, inf, fin, binary64, neg, lt, div, of_bits}
 use lib.Ieee.Scale.{finite}
 
-pub minus-inf-is : div binary64 (neg (of_bits binary64 0x3ff0_0000_0000_0000)) (of_bits binary64 0) ≡ inf true
+pub minus_inf_is : div binary64 (neg (of_bits binary64 0x3ff0_0000_0000_0000)) (of_bits binary64 0) ≡ inf true
 unfolding div neg of_bits
-minus-inf-is = refl
+minus_inf_is = refl
 
-pub finite-is : (x : Float) → lt (inf true) x && lt x (inf false) ≡ finite x
+pub finite_is : (x : Float) → lt (inf true) x && lt x (inf false) ≡ finite x
 unfolding lt
-finite-is nan = refl
-finite-is (inf true) = refl
-finite-is (inf false) = refl
-finite-is (fin s m e) = refl
+finite_is nan = refl
+finite_is (inf true) = refl
+finite_is (inf false) = refl
+finite_is (fin s m e) = refl

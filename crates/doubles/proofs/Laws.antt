@@ -28,32 +28,32 @@ div-fits x y = fit.div-fits binary64 x y
 -- ---- sign
 
 -- sums, products, quotients and roots of clear values are clear
-pub add-clear : (x y : Float) → T (clear x) → T (clear y) → T (clear (x ⊕ y))
-add-clear x y p q = signs.add-clear binary64 x y p q
+pub add_clear : (x y : Float) → T (clear x) → T (clear y) → T (clear (x ⊕ y))
+add_clear x y p q = signs.add_clear binary64 x y p q
 
-pub mul-clear : (x y : Float) → T (clear x) → T (clear y) → T (clear (x ⊗ y))
-mul-clear x y p q = signs.mul-clear binary64 x y p q
+pub mul_clear : (x y : Float) → T (clear x) → T (clear y) → T (clear (x ⊗ y))
+mul_clear x y p q = signs.mul_clear binary64 x y p q
 
-pub div-clear : (x y : Float) → T (clear x) → T (clear y) → T (clear (x ⊘ y))
-div-clear x y p q = signs.div-clear binary64 x y p q
+pub div_clear : (x y : Float) → T (clear x) → T (clear y) → T (clear (x ⊘ y))
+div_clear x y p q = signs.div_clear binary64 x y p q
 
 -- a + t (b - a) is clear for clear a, b and t from 0 to 1
-pub lerp-clear : (a b t : Float) → T (fits binary64 a) → T (fits binary64 t) → T (clear a) → T (clear b) → T (le zero64 t) → T (le t one64) → T (clear (a ⊕ t ⊗ (b ⊖ a)))
-lerp-clear a b t h k p q lo hi = interpolation.lerp-clear binary64 a b t h k p q lo hi
+pub lerp_clear : (a b t : Float) → T (fits binary64 a) → T (fits binary64 t) → T (clear a) → T (clear b) → T (le zero64 t) → T (le t one64) → T (clear (a ⊕ t ⊗ (b ⊖ a)))
+lerp_clear a b t h k p q lo hi = interpolation.lerp_clear binary64 a b t h k p q lo hi
 
 -- sums and products of values that are not negative are not negative
-pub add-not_neg : (x y : Float) → T (not_neg x) → T (not_neg y) → T (not_neg (x ⊕ y))
-add-not_neg x y p q = signs.add-not_neg binary64 x y p q
+pub add_not_neg : (x y : Float) → T (not_neg x) → T (not_neg y) → T (not_neg (x ⊕ y))
+add_not_neg x y p q = signs.add_not_neg binary64 x y p q
 
-pub mul-not_neg : (x y : Float) → T (not_neg x) → T (not_neg y) → T (not_neg (x ⊗ y))
-mul-not_neg x y p q = signs.mul-not_neg binary64 x y p q
+pub mul_not_neg : (x y : Float) → T (not_neg x) → T (not_neg y) → T (not_neg (x ⊗ y))
+mul_not_neg x y p q = signs.mul_not_neg binary64 x y p q
 
 -- a clear value is not negative
-pub clear-not_neg : (x : Float) → T (clear x) → T (not_neg x)
-clear-not_neg x p = signs.clear-not_neg x p
+pub clear_not_neg : (x : Float) → T (clear x) → T (not_neg x)
+clear_not_neg x p = signs.clear_not_neg x p
 
-pub not_neg-of-le : (x : Float) → T (le zero64 x) → T (not_neg x)
-not_neg-of-le x h = interpolation.not_neg-le x h
+pub not_neg_of_le : (x : Float) → T (le zero64 x) → T (not_neg x)
+not_neg_of_le x h = interpolation.not_neg_le x h
 
 -- ---- zero
 
@@ -62,11 +62,11 @@ pub add-zero : (x : Float) → T (fits binary64 x) → (x ≡ fin true 0 (pos 0)
 add-zero x h n = addZero.add-zero binary64 x h n
 
 -- and so nothing of a clear value
-pub add-zero-clear : (x : Float) → T (fits binary64 x) → T (clear x) → x ⊕ zero64 ≡ x
-add-zero-clear x h p = add-zero x h (λ (e : x ≡ fin true 0 (pos 0)). subst (λ (z : Float). T (clear z)) e p)
+pub add_zero_clear : (x : Float) → T (fits binary64 x) → T (clear x) → x ⊕ zero64 ≡ x
+add_zero_clear x h p = add-zero x h (λ (e : x ≡ fin true 0 (pos 0)). subst (λ (z : Float). T (clear z)) e p)
 
 -- ---- normalising
 
 -- with a finite sum of squares above 0, a value that is not negative, over the root of the sum, is from 0 to 5/4
-pub norm-bound : (v : List Float) (x : Float) → T (finite (sum_squares v)) → T (lt zero64 (sum_squares v)) → Memᴰ x v → T (fits binary64 x) → T (not_neg x) → Bounded (x ⊘ sqrt_of binary64 (sum_squares v))
-norm-bound v x t l i h p = bound.norm-bound binary64 v x t l i h p
+pub norm_bound : (v : List Float) (x : Float) → T (finite (sum_squares v)) → T (lt zero64 (sum_squares v)) → Memᴰ x v → T (fits binary64 x) → T (not_neg x) → Bounded (x ⊘ sqrt_of binary64 (sum_squares v))
+norm_bound v x t l i h p = bound.norm_bound binary64 v x t l i h p

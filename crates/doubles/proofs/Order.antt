@@ -5,86 +5,86 @@ use lib.Ieee.Fits.{and_l, down_pos, round-fits}
 use lib.Ieee.Exact.{HasValue}
 use lib.Ieee.Order.{transfer, le_of_values, round_mono}
 use lib.Ieee.Scale.{grid, finite, round_val, round_under}
-use Rattle.doubles.proofs.Magnitude.{mag, mag_of, plain, plain-val, round-at, add_at}
-use Rattle.doubles.proofs.Signs.{clear, round-clear}
+use Rattle.doubles.proofs.Magnitude.{mag, mag_of, plain, plain_val, round_at, add_at}
+use Rattle.doubles.proofs.Signs.{clear, round_clear}
 
 -- ---- the order of two values, by their sizes
 or_split : (a b : Bool) → T (a || b) → T a ⊎ T b
 or_split true b t = inl tt
 or_split false b t = inr t
 
-pub lt-or-eq : (a b : ℕ) → T (ltb a b || (eqb a b && true)) → a ≤ b
-lt-or-eq a b t = elim (or_split (ltb a b) (eqb a b && true) t) [ inl u ↦ le_of_lt (ltb→lt a b u) | inr u ↦ le_of_eq (eqb→eq a b (and_l (eqb a b) true u)) ]
+pub lt_or_eq : (a b : ℕ) → T (ltb a b || (eqb a b && true)) → a ≤ b
+lt_or_eq a b t = elim (or_split (ltb a b) (eqb a b && true) t) [ inl u ↦ le_of_lt (ltb→lt a b u) | inr u ↦ le_of_eq (eqb→eq a b (and_l (eqb a b) true u)) ]
 
-le-fractions : (x y : Float) (a c b d : ℕ) → HasValue x false a c → HasValue y false b d → T (le x y) → a * d ≤ b * c
+le_fractions : (x y : Float) (a c b d : ℕ) → HasValue x false a c → HasValue y false b d → T (le x y) → a * d ≤ b * c
 unfolding le
-le-fractions nan y a c b d h k l = absurd h
-le-fractions (inf s) y a c b d h k l = absurd h
-le-fractions (fin s m e) nan a c b d h k l = absurd k
-le-fractions (fin s m e) (inf t) a c b d h k l = absurd k
-le-fractions (fin true m e) (fin t n g) a c b d h k l = absurd (true≢false h.0)
-le-fractions (fin false m e) (fin true n g) a c b d h k l = absurd (true≢false k.0)
-le-fractions (fin false m e) (fin false n g) a c b d h k l =
-    transfer a b c d (m * up e) (n * up g) (down e) (down g) (down_pos e) (down_pos g) (sym h.1) (sym k.1) (lt-or-eq (m * up e * down g) (n * up g * down e) l)
+le_fractions nan y a c b d h k l = absurd h
+le_fractions (inf s) y a c b d h k l = absurd h
+le_fractions (fin s m e) nan a c b d h k l = absurd k
+le_fractions (fin s m e) (inf t) a c b d h k l = absurd k
+le_fractions (fin true m e) (fin t n g) a c b d h k l = absurd (true≢false h.0)
+le_fractions (fin false m e) (fin true n g) a c b d h k l = absurd (true≢false k.0)
+le_fractions (fin false m e) (fin false n g) a c b d h k l =
+    transfer a b c d (m * up e) (n * up g) (down e) (down g) (down_pos e) (down_pos g) (sym h.1) (sym k.1) (lt_or_eq (m * up e * down g) (n * up g * down e) l)
 
-pub mag-mono : (f : Format) (x y : Float) → T (fits f x) → T (fits f y) → T (plain x) → T (plain y) → T (le x y) → mag f x ≤ mag f y
-mag-mono f x y h k p q l = le_of_mul-le-mul_right (le-fractions x y (mag f x) (2 ^ low f) (mag f y) (2 ^ low f) (plain-val f x h p) (plain-val f y k q) l) (pow_pos (low f))
+pub mag_mono : (f : Format) (x y : Float) → T (fits f x) → T (fits f y) → T (plain x) → T (plain y) → T (le x y) → mag f x ≤ mag f y
+mag_mono f x y h k p q l = le_of_mul-le-mul_right (le_fractions x y (mag f x) (2 ^ low f) (mag f y) (2 ^ low f) (plain_val f x h p) (plain_val f y k q) l) (pow_pos (low f))
 
-pub mag-le : (f : Format) (x y : Float) → T (fits f x) → T (fits f y) → T (plain x) → T (plain y) → mag f x ≤ mag f y → T (le x y)
-mag-le f x y h k p q l = le_of_values x y (mag f x) (2 ^ low f) (mag f y) (2 ^ low f) (pow_pos (low f)) (pow_pos (low f)) (plain-val f x h p) (plain-val f y k q) (mul-le-mul_right (2 ^ low f) l)
+pub mag_le : (f : Format) (x y : Float) → T (fits f x) → T (fits f y) → T (plain x) → T (plain y) → mag f x ≤ mag f y → T (le x y)
+mag_le f x y h k p q l = le_of_values x y (mag f x) (2 ^ low f) (mag f y) (2 ^ low f) (pow_pos (low f)) (pow_pos (low f)) (plain_val f x h p) (plain_val f y k q) (mul-le-mul_right (2 ^ low f) l)
 
 -- ---- what is no more than a finite value, and has no sign, is finite
-pub plain-under : (x y : Float) → T (clear x) → T (plain y) → T (le x y) → T (plain x)
+pub plain_under : (x y : Float) → T (clear x) → T (plain y) → T (le x y) → T (plain x)
 unfolding le
-plain-under nan y c p l = absurd l
-plain-under (inf true) y c p l = absurd c
-plain-under (inf false) nan c p l = absurd p
-plain-under (inf false) (inf t) c p l = absurd p
-plain-under (inf false) (fin t n d) c p l = absurd l
-plain-under (fin s m e) y c p l = c
+plain_under nan y c p l = absurd l
+plain_under (inf true) y c p l = absurd c
+plain_under (inf false) nan c p l = absurd p
+plain_under (inf false) (inf t) c p l = absurd p
+plain_under (inf false) (fin t n d) c p l = absurd l
+plain_under (fin s m e) y c p l = c
 
-pub clear-finite : (x : Float) → T (clear x) → T (finite x) → T (plain x)
-clear-finite nan c t = t
-clear-finite (inf s) c t = absurd t
-clear-finite (fin s m e) c t = c
+pub clear_finite : (x : Float) → T (clear x) → T (finite x) → T (plain x)
+clear_finite nan c t = t
+clear_finite (inf s) c t = absurd t
+clear_finite (fin s m e) c t = c
 
 -- ---- a fraction a / c, and a value y
-pub round-le : (f : Format) (a c : ℕ) (y : Float) → T (fits f y) → T (plain y) → 0 < c → a * 2 ^ low f ≤ mag f y * c → T (le (round f false a c) y)
-round-le f a c y h p C l =
-    subst (λ (z : Float). T (le (round f false a c) z)) (round-at f y false (mag f y) (2 ^ low f) h (pow_pos (low f)) (plain-val f y h p))
+pub round_le : (f : Format) (a c : ℕ) (y : Float) → T (fits f y) → T (plain y) → 0 < c → a * 2 ^ low f ≤ mag f y * c → T (le (round f false a c) y)
+round_le f a c y h p C l =
+    subst (λ (z : Float). T (le (round f false a c) z)) (round_at f y false (mag f y) (2 ^ low f) h (pow_pos (low f)) (plain_val f y h p))
     (round_mono f a c (mag f y) (2 ^ low f) C (pow_pos (low f)) l)
 
-pub round-ge : (f : Format) (a c : ℕ) (y : Float) → T (fits f y) → T (plain y) → 0 < c → mag f y * c ≤ a * 2 ^ low f → T (le y (round f false a c))
-round-ge f a c y h p C l =
-    subst (λ (z : Float). T (le z (round f false a c))) (round-at f y false (mag f y) (2 ^ low f) h (pow_pos (low f)) (plain-val f y h p))
+pub round_ge : (f : Format) (a c : ℕ) (y : Float) → T (fits f y) → T (plain y) → 0 < c → mag f y * c ≤ a * 2 ^ low f → T (le y (round f false a c))
+round_ge f a c y h p C l =
+    subst (λ (z : Float). T (le z (round f false a c))) (round_at f y false (mag f y) (2 ^ low f) h (pow_pos (low f)) (plain_val f y h p))
     (round_mono f (mag f y) (2 ^ low f) a c (pow_pos (low f)) C l)
 
 -- so it is finite, and no more than y in size
-pub round-under-value : (f : Format) (a c : ℕ) (y : Float) → T (fits f y) → T (plain y) → 0 < c → a * 2 ^ low f ≤ mag f y * c → T (plain (round f false a c)) × (mag f (round f false a c) ≤ mag f y)
-round-under-value f a c y h p C l =
-    let o = round-le f a c y h p C l in
-    let q = plain-under (round f false a c) y (round-clear f a c) p o in
-    (q, mag-mono f (round f false a c) y (round-fits f false a c) h q p o)
+pub round_under_value : (f : Format) (a c : ℕ) (y : Float) → T (fits f y) → T (plain y) → 0 < c → a * 2 ^ low f ≤ mag f y * c → T (plain (round f false a c)) × (mag f (round f false a c) ≤ mag f y)
+round_under_value f a c y h p C l =
+    let o = round_le f a c y h p C l in
+    let q = plain_under (round f false a c) y (round_clear f a c) p o in
+    (q, mag_mono f (round f false a c) y (round-fits f false a c) h q p o)
 
 -- a finite result's size is `grid`
-pub grid-is : (f : Format) (a c : ℕ) → T (finite (round f false a c)) → mag f (round f false a c) ≡ grid f a c
-grid-is f a c t = mag_of f (round f false a c) false (grid f a c) (round_val f a c (round_under f a c t))
+pub grid_is : (f : Format) (a c : ℕ) → T (finite (round f false a c)) → mag f (round f false a c) ≡ grid f a c
+grid_is f a c t = mag_of f (round f false a c) false (grid f a c) (round_val f a c (round_under f a c t))
 
 -- ---- a sum is no less than either summand
-sum-scale : (a b l : ℕ) → a * (l * l) ≤ (a * l + b * l) * l
-sum-scale a b l = le_trans (le_of_eq (sym (mul_assoc a l l))) (mul-le-mul_right l (le-add_right (a * l) (b * l)))
+sum_scale : (a b l : ℕ) → a * (l * l) ≤ (a * l + b * l) * l
+sum_scale a b l = le_trans (le_of_eq (sym (mul_assoc a l l))) (mul-le-mul_right l (le-add_right (a * l) (b * l)))
 
-sum-scale' : (a b l : ℕ) → b * (l * l) ≤ (a * l + b * l) * l
-sum-scale' a b l = le_trans (le_of_eq (sym (mul_assoc b l l))) (mul-le-mul_right l (le-add_left (b * l) (a * l)))
+sum_scale' : (a b l : ℕ) → b * (l * l) ≤ (a * l + b * l) * l
+sum_scale' a b l = le_trans (le_of_eq (sym (mul_assoc b l l))) (mul-le-mul_right l (le-add_left (b * l) (a * l)))
 
-pub add-ge : (f : Format) (x y : Float) → T (fits f x) → T (fits f y) → T (plain x) → T (plain y) → T (le x (add f x y)) × T (le y (add f x y))
-add-ge f x y h k p q =
+pub add_ge : (f : Format) (x y : Float) → T (fits f x) → T (fits f y) → T (plain x) → T (plain y) → T (le x (add f x y)) × T (le y (add f x y))
+add_ge f x y h k p q =
     let l = 2 ^ low f in
     let L = pow_pos (low f) in
-    let e = add_at f x y (mag f x) l (mag f y) l L L (plain-val f x h p) (plain-val f y k q) in
+    let e = add_at f x y (mag f x) l (mag f y) l L L (plain_val f x h p) (plain_val f y k q) in
     subst (λ (z : Float). T (le x z) × T (le y z)) (sym e) (
-      round-ge f (mag f x * l + mag f y * l) (l * l) x h p (mul-pos L L) (sum-scale (mag f x) (mag f y) l),
-      round-ge f (mag f x * l + mag f y * l) (l * l) y k q (mul-pos L L) (sum-scale' (mag f x) (mag f y) l),
+      round_ge f (mag f x * l + mag f y * l) (l * l) x h p (mul-pos L L) (sum_scale (mag f x) (mag f y) l),
+      round_ge f (mag f x * l + mag f y * l) (l * l) y k q (mul-pos L L) (sum_scale' (mag f x) (mag f y) l),
     )
 
 -- a finite sum of values without a sign has finite summands

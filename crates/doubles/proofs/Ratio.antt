@@ -7,22 +7,22 @@ use lib.Ieee.Exact.{HasValue, round_exact}
 use lib.Ieee.Order.{le_of_values, round_mono}
 use lib.Ieee.Scale.{finite}
 use Rattle.doubles.specs.Arithmetic.{one64, minus_one64}
-use Rattle.doubles.proofs.Magnitude.{mag, mag_of, mag-val, sign, plain, plain-finite, plain-val, round-at, div-at}
-use Rattle.doubles.proofs.Signs.{round-clear}
-use Rattle.doubles.proofs.Order.{mag-mono, plain-under, clear-finite}
-use Rattle.doubles.proofs.Fractions.{same_test, add-of, lt_of, sum-scaled, sum-plain, sum-turned}
-use Rattle.doubles.proofs.Interpolation.{one-fits, to_one}
+use Rattle.doubles.proofs.Magnitude.{mag, mag_of, mag_val, sign, plain, plain_finite, plain_val, round_at, div_at}
+use Rattle.doubles.proofs.Signs.{round_clear}
+use Rattle.doubles.proofs.Order.{mag_mono, plain_under, clear_finite}
+use Rattle.doubles.proofs.Fractions.{same_test, add_of, lt_of, sum_scaled, sum_plain, sum_turned}
+use Rattle.doubles.proofs.Interpolation.{one_fits, to_one}
 use Rattle.doubles.proofs.Differences.{UpTo}
 
 -- ---- a quotient of two rounded fractions over one denominator, the first no more than the second, which is one unit at least
-some-digits : (f : Format) → 0 < prec f
-some-digits binary32 = omega arith
-some-digits binary64 = omega arith
+some_digits : (f : Format) → 0 < prec f
+some_digits binary32 = omega arith
+some_digits binary64 = omega arith
 
-unit-mag : (f : Format) → mag f (round f false 1 (2 ^ low f)) ≡ 1
-unit-mag f =
+unit_mag : (f : Format) → mag f (round f false 1 (2 ^ low f)) ≡ 1
+unit_mag f =
     let l = 2 ^ low f in
-    let small : 1 < 2 ^ prec f = pow-lt (some-digits f) in
+    let small : 1 < 2 ^ prec f = pow-lt (some_digits f) in
     let top : 0 < low f + suc (emax f) = omega arith in
     let fine : 1 < 2 ^ (low f + suc (emax f)) = pow-lt top in
     mag_of f (round f false 1 l) false 1 (round_exact f false 1 l 1 0 (pow_pos (low f)) small fine refl)
@@ -34,35 +34,35 @@ module _ (f : Format) (d e c : ℕ) (C : 0 < c) (order : d ≤ e) (some : c ≤ 
   abbrev y : Float
   y = round f false e c
 
-  y-plain : T (plain y)
-  y-plain = clear-finite y (round-clear f e c) t
+  y_plain : T (plain y)
+  y_plain = clear_finite y (round_clear f e c) t
 
-  x-order : T (le x y)
-  x-order = round_mono f d c e c C C (mul-le-mul_right c order)
+  x_order : T (le x y)
+  x_order = round_mono f d c e c C C (mul-le-mul_right c order)
 
-  x-plain : T (plain x)
-  x-plain = plain-under x y (round-clear f d c) y-plain x-order
+  x_plain : T (plain x)
+  x_plain = plain_under x y (round_clear f d c) y_plain x_order
 
   mags : mag f x ≤ mag f y
-  mags = mag-mono f x y (round-fits f false d c) (round-fits f false e c) x-plain y-plain x-order
+  mags = mag_mono f x y (round-fits f false d c) (round-fits f false e c) x_plain y_plain x_order
 
-  y-some : 0 < mag f y
-  y-some =
+  y_some : 0 < mag f y
+  y_some =
       let l = 2 ^ low f in
       let o = round_mono f 1 l e c (pow_pos (low f)) C (le_trans (le_of_eq (one-mul c)) some) in
-      let p = plain-under (round f false 1 l) y (round-clear f 1 l) y-plain o in
-      le_trans (le_of_eq (sym (unit-mag f))) (mag-mono f (round f false 1 l) y (round-fits f false 1 l) (round-fits f false e c) p y-plain o)
+      let p = plain_under (round f false 1 l) y (round_clear f 1 l) y_plain o in
+      le_trans (le_of_eq (sym (unit_mag f))) (mag_mono f (round f false 1 l) y (round-fits f false 1 l) (round-fits f false e c) p y_plain o)
 
-  quotient-up-to : UpTo f one64 (div f x y)
-  quotient-up-to =
+  quotient_up_to : UpTo f one64 (div f x y)
+  quotient_up_to =
       let l = 2 ^ low f in
       let L = pow_pos (low f) in
-      let q = div-at f x y (mag f x) l (mag f y) l L L y-some (plain-val f x (round-fits f false d c) x-plain) (plain-val f y (round-fits f false e c) y-plain) in
+      let q = div_at f x y (mag f x) l (mag f y) l L L y_some (plain_val f x (round-fits f false d c) x_plain) (plain_val f y (round-fits f false e c) y_plain) in
       let r = round f false (mag f x * l) (mag f y * l) in
       let o : T (le r one64) =
-      subst (λ (z : Float). T (le r z)) (round-at f one64 false 1 1 (one-fits f) (omega arith) (refl, refl))
-      (round_mono f (mag f x * l) (mag f y * l) 1 1 (mul-pos y-some L) (omega arith) (le_trans (le_of_eq (mul-one (mag f x * l))) (le_trans (mul-le-mul_right l mags) (le_of_eq (sym (one-mul (mag f y * l))))))) in
-      subst (λ (z : Float). UpTo f one64 z) (sym q) (round-fits f false (mag f x * l) (mag f y * l), plain-under r one64 (round-clear f (mag f x * l) (mag f y * l)) tt o, o)
+      subst (λ (z : Float). T (le r z)) (round_at f one64 false 1 1 (one_fits f) (omega arith) (refl, refl))
+      (round_mono f (mag f x * l) (mag f y * l) 1 1 (mul-pos y_some L) (omega arith) (le_trans (le_of_eq (mul-one (mag f x * l))) (le_trans (mul-le-mul_right l mags) (le_of_eq (sym (one-mul (mag f y * l))))))) in
+      subst (λ (z : Float). UpTo f one64 z) (sym q) (round-fits f false (mag f x * l) (mag f y * l), plain_under r one64 (round_clear f (mag f x * l) (mag f y * l)) tt o, o)
 
 -- ---- how far ±p is above ±q
 abbrev gap : Bool → ℕ → Bool → ℕ → ℕ
@@ -71,36 +71,36 @@ gap false p true q = p + q
 gap true p false q = 0
 gap true p true q = q - p
 
-gap-some : (s t : Bool) (p q : ℕ) → below t q s p ≡ true → 0 < gap s p t q
-gap-some false false p q h = omega (arith, ltb-true q p h)
-gap-some false true p q h = omega (arith, ltb-true 0 (q + p) h)
-gap-some true false p q h = absurd (true≢false (sym h))
-gap-some true true p q h = omega (arith, ltb-true p q h)
+gap_some : (s t : Bool) (p q : ℕ) → below t q s p ≡ true → 0 < gap s p t q
+gap_some false false p q h = omega (arith, ltb-true q p h)
+gap_some false true p q h = omega (arith, ltb-true 0 (q + p) h)
+gap_some true false p q h = absurd (true≢false (sym h))
+gap_some true true p q h = omega (arith, ltb-true p q h)
 
-gap-sum : (s t : Bool) (p q : ℕ) → below t q s p ≡ true → (f : Format) (c : ℕ) → sum f s p (not t) q c ≡ round f false (gap s p t q) c
-gap-sum false false p q h f c = sum-plain f p q c (omega (arith, ltb-true q p h))
-gap-sum false true p q h f c = unfold sum in refl
-gap-sum true false p q h f c = absurd (true≢false (sym h))
-gap-sum true true p q h f c = sum-turned f p q c (le_of_lt (ltb-true p q h))
+gap_sum : (s t : Bool) (p q : ℕ) → below t q s p ≡ true → (f : Format) (c : ℕ) → sum f s p (not t) q c ≡ round f false (gap s p t q) c
+gap_sum false false p q h f c = sum_plain f p q c (omega (arith, ltb-true q p h))
+gap_sum false true p q h f c = unfold sum in refl
+gap_sum true false p q h f c = absurd (true≢false (sym h))
+gap_sum true true p q h f c = sum_turned f p q c (le_of_lt (ltb-true p q h))
 
 -- where ±e is not below ±p
-gap-order : (s t r : Bool) (p q e : ℕ) → below t q s p ≡ true → below r e s p ≡ false → gap s p t q ≤ gap r e t q
-gap-order false false false p q e h k = omega (arith, ltb-false e p k)
-gap-order false true false p q e h k = omega (arith, ltb-false e p k)
-gap-order false false true p q e h k = omega (arith, ltb-true q p h, ltb-false 0 (e + p) k)
-gap-order false true true p q e h k = omega (arith, ltb-true 0 (q + p) h, ltb-false 0 (e + p) k)
-gap-order true false r p q e h k = absurd (true≢false (sym h))
-gap-order true true false p q e h k = omega arith
-gap-order true true true p q e h k = omega (arith, ltb-false p e k)
+gap_order : (s t r : Bool) (p q e : ℕ) → below t q s p ≡ true → below r e s p ≡ false → gap s p t q ≤ gap r e t q
+gap_order false false false p q e h k = omega (arith, ltb-false e p k)
+gap_order false true false p q e h k = omega (arith, ltb-false e p k)
+gap_order false false true p q e h k = omega (arith, ltb-true q p h, ltb-false 0 (e + p) k)
+gap_order false true true p q e h k = omega (arith, ltb-true 0 (q + p) h, ltb-false 0 (e + p) k)
+gap_order true false r p q e h k = absurd (true≢false (sym h))
+gap_order true true false p q e h k = omega arith
+gap_order true true true p q e h k = omega (arith, ltb-false p e k)
 
-below-order : (s t r : Bool) (p q e : ℕ) → below t q s p ≡ true → below r e s p ≡ false → below t q r e ≡ true
-below-order false false false p q e h k = let l = ltb-true q p h in let m = ltb-false e p k in lt-ltb q e (omega arith)
-below-order false true false p q e h k = let l = ltb-true 0 (q + p) h in let m = ltb-false e p k in lt-ltb 0 (q + e) (omega arith)
-below-order false false true p q e h k = let l = ltb-true q p h in let m = ltb-false 0 (e + p) k in absurd (omega arith)
-below-order false true true p q e h k = let l = ltb-true 0 (q + p) h in let m = ltb-false 0 (e + p) k in lt-ltb e q (omega arith)
-below-order true false r p q e h k = absurd (true≢false (sym h))
-below-order true true false p q e h k = let l = ltb-true p q h in lt-ltb 0 (q + e) (omega arith)
-below-order true true true p q e h k = let l = ltb-true p q h in let m = ltb-false p e k in lt-ltb e q (omega arith)
+below_order : (s t r : Bool) (p q e : ℕ) → below t q s p ≡ true → below r e s p ≡ false → below t q r e ≡ true
+below_order false false false p q e h k = let l = ltb-true q p h in let m = ltb-false e p k in lt-ltb q e (omega arith)
+below_order false true false p q e h k = let l = ltb-true 0 (q + p) h in let m = ltb-false e p k in lt-ltb 0 (q + e) (omega arith)
+below_order false false true p q e h k = let l = ltb-true q p h in let m = ltb-false 0 (e + p) k in absurd (omega arith)
+below_order false true true p q e h k = let l = ltb-true 0 (q + p) h in let m = ltb-false 0 (e + p) k in lt-ltb e q (omega arith)
+below_order true false r p q e h k = absurd (true≢false (sym h))
+below_order true true false p q e h k = let l = ltb-true p q h in lt-ltb 0 (q + e) (omega arith)
+below_order true true true p q e h k = let l = ltb-true p q h in let m = ltb-false p e k in lt-ltb e q (omega arith)
 
 -- ---- a difference, by the sizes in units
 scaled : (a b l : ℕ) → 0 < l → ltb (a * l) (b * l) ≡ ltb a b
@@ -108,11 +108,11 @@ scaled a b l L =
     same_test (ltb (a * l) (b * l)) (ltb a b) (λ (t : T (ltb (a * l) (b * l))). lt→ltb a b (lt_of_mul-lt-mul_right l (ltb→lt (a * l) (b * l) t)))
     (λ (t : T (ltb a b)). lt→ltb (a * l) (b * l) (mul-lt-mul_of_pos_right (ltb→lt a b t) L))
 
-below-units : (s t : Bool) (a b l : ℕ) → 0 < l → below s (a * l) t (b * l) ≡ below s a t b
-below-units false false a b l L = scaled a b l L
-below-units false true a b l L = refl
-below-units true false a b l L = ap₂ ltb (sym (zero-mul l)) (sym (add-mul a b l)) ∙ scaled 0 (a + b) l L
-below-units true true a b l L = scaled b a l L
+below_units : (s t : Bool) (a b l : ℕ) → 0 < l → below s (a * l) t (b * l) ≡ below s a t b
+below_units false false a b l L = scaled a b l L
+below_units false true a b l L = refl
+below_units true false a b l L = ap₂ ltb (sym (zero-mul l)) (sym (add-mul a b l)) ∙ scaled 0 (a + b) l L
+below_units true true a b l L = scaled b a l L
 
 neg_value : (x : Float) (s : Bool) (a c : ℕ) → HasValue x s a c → HasValue (neg x) (not s) a c
 unfolding neg
@@ -121,16 +121,16 @@ neg_value (inf t) s a c v = v
 neg_value (fin t m e) s a c v = (ap not v.0, v.1)
 
 module _ (f : Format) (x y : Float) (h : T (fits f x)) (k : T (fits f y)) (t : T (finite x)) (u : T (finite y)) where
-  lt-units : lt x y ≡ below (sign x) (mag f x) (sign y) (mag f y)
-  lt-units = let l = 2 ^ low f in lt_of x y (sign x) (mag f x) l (sign y) (mag f y) l (pow_pos (low f)) (pow_pos (low f)) (mag-val f x h t) (mag-val f y k u) ∙ below-units (sign x) (sign y) (mag f x) (mag f y) l (pow_pos (low f))
+  lt_units : lt x y ≡ below (sign x) (mag f x) (sign y) (mag f y)
+  lt_units = let l = 2 ^ low f in lt_of x y (sign x) (mag f x) l (sign y) (mag f y) l (pow_pos (low f)) (pow_pos (low f)) (mag_val f x h t) (mag_val f y k u) ∙ below_units (sign x) (sign y) (mag f x) (mag f y) l (pow_pos (low f))
 
-  sub-units : sub f x y ≡ sum f (sign x) (mag f x) (not (sign y)) (mag f y) (2 ^ low f)
+  sub_units : sub f x y ≡ sum f (sign x) (mag f x) (not (sign y)) (mag f y) (2 ^ low f)
   unfolding sub
-  sub-units =
+  sub_units =
       let l = 2 ^ low f in
       let L = pow_pos (low f) in
-      add-of f x (neg y) (sign x) (mag f x) l (not (sign y)) (mag f y) l L L (mag-val f x h t) (neg_value y (sign y) (mag f y) l (mag-val f y k u))
-      ∙ sum-scaled f (sign x) (not (sign y)) (mag f x * l) (mag f y * l) (l * l) (mag f x) (mag f y) l (mul-pos L L) L (mul_assoc (mag f x) l l) (mul_assoc (mag f y) l l)
+      add_of f x (neg y) (sign x) (mag f x) l (not (sign y)) (mag f y) l L L (mag_val f x h t) (neg_value y (sign y) (mag f y) l (mag_val f y k u))
+      ∙ sum_scaled f (sign x) (not (sign y)) (mag f x * l) (mag f y * l) (l * l) (mag f x) (mag f y) l (mul-pos L L) L (mul_assoc (mag f x) l l) (mul_assoc (mag f y) l l)
 
 -- ---- the law
 module _
@@ -148,22 +148,22 @@ module _
     -- a is below b
     pub below_both : lt a b ≡ true
     below_both =
-        lt-units f a b fa fb ta tb
-        ∙ below-order (sign u) (sign a) (sign b) (mag f u) (mag f a) (mag f b) (sym (lt-units f a u fa fu ta tu) ∙ above) (sym (lt-units f b u fb fu tb tu) ∙ within)
+        lt_units f a b fa fb ta tb
+        ∙ below_order (sign u) (sign a) (sign b) (mag f u) (mag f a) (mag f b) (sym (lt_units f a u fa fu ta tu) ∙ above) (sym (lt_units f b u fb fu tb tu) ∙ within)
 
-    pub ratio-up-to : T (finite (sub f b a)) → UpTo f one64 (div f (sub f u a) (sub f b a))
-    ratio-up-to room =
+    pub ratio_up_to : T (finite (sub f b a)) → UpTo f one64 (div f (sub f u a) (sub f b a))
+    ratio_up_to room =
         let l = 2 ^ low f in
         let L = pow_pos (low f) in
-        let lo = sym (lt-units f a u fa fu ta tu) ∙ above in
-        let hi = sym (lt-units f b u fb fu tb tu) ∙ within in
-        let lohi = sym (lt-units f a b fa fb ta tb) ∙ below_both in
+        let lo = sym (lt_units f a u fa fu ta tu) ∙ above in
+        let hi = sym (lt_units f b u fb fu tb tu) ∙ within in
+        let lohi = sym (lt_units f a b fa fb ta tb) ∙ below_both in
         let d = gap (sign u) (mag f u) (sign a) (mag f a) in
         let e = gap (sign b) (mag f b) (sign a) (mag f a) in
-        let x : sub f u a ≡ round f false d l = sub-units f u a fu fa tu ta ∙ gap-sum (sign u) (sign a) (mag f u) (mag f a) lo f l in
-        let y : sub f b a ≡ round f false e l = sub-units f b a fb fa tb ta ∙ gap-sum (sign b) (sign a) (mag f b) (mag f a) lohi f l in
-        let some : l ≤ e * l = le_trans (le_of_eq (sym (one-mul l))) (mul-le-mul_right l (gap-some (sign b) (sign a) (mag f b) (mag f a) lohi)) in
-        rw (x, y) (quotient-up-to f d e l L (gap-order (sign u) (sign a) (sign b) (mag f u) (mag f a) (mag f b) lo hi) some (rw y at room))
+        let x : sub f u a ≡ round f false d l = sub_units f u a fu fa tu ta ∙ gap_sum (sign u) (sign a) (mag f u) (mag f a) lo f l in
+        let y : sub f b a ≡ round f false e l = sub_units f b a fb fa tb ta ∙ gap_sum (sign b) (sign a) (mag f b) (mag f a) lohi f l in
+        let some : l ≤ e * l = le_trans (le_of_eq (sym (one-mul l))) (mul-le-mul_right l (gap_some (sign b) (sign a) (mag f b) (mag f a) lohi)) in
+        rw (x, y) (quotient_up_to f d e l L (gap_order (sign u) (sign a) (sign b) (mag f u) (mag f a) (mag f b) lo hi) some (rw y at room))
 
 -- ---- differences of values from -1 to 1 are finite
 or_split : (p q : Bool) → T (p || q) → T p ⊎ T q
@@ -178,20 +178,20 @@ unfolding fits
 unsigned f zero e h = h
 unsigned f (suc m) e h = h
 
-room-mag : (f : Format) (x : Float) → T (fits f x) → T (le minus_one64 x) → T (le x one64) → mag f x ≤ 2 ^ low f
+room_mag : (f : Format) (x : Float) → T (fits f x) → T (le minus_one64 x) → T (le x one64) → mag f x ≤ 2 ^ low f
 unfolding le
-room-mag f nan h lo hi = absurd lo
-room-mag f (inf true) h lo hi = absurd lo
-room-mag f (inf false) h lo hi = absurd hi
-room-mag f (fin false m e) h lo hi = to_one f (fin false m e) h tt hi
-room-mag f (fin true m e) h lo hi =
+room_mag f nan h lo hi = absurd lo
+room_mag f (inf true) h lo hi = absurd lo
+room_mag f (inf false) h lo hi = absurd hi
+room_mag f (fin false m e) h lo hi = to_one f (fin false m e) h tt hi
+room_mag f (fin true m e) h lo hi =
     to_one f (fin false m e) (unsigned f m e h) tt (le_of_values (fin false m e) one64 (m * up e) (down e) 1 1 (down_pos e) (omega arith) (refl, refl) (refl, refl) (turned (m * up e * 1) (1 * down e) lo))
 
-gap-most : (s t : Bool) (p q l : ℕ) → p ≤ l → q ≤ l → gap s p t q ≤ 2 * l
-gap-most false false p q l h k = omega arith
-gap-most false true p q l h k = omega arith
-gap-most true false p q l h k = omega arith
-gap-most true true p q l h k = omega arith
+gap_most : (s t : Bool) (p q l : ℕ) → p ≤ l → q ≤ l → gap s p t q ≤ 2 * l
+gap_most false false p q l h k = omega arith
+gap_most false true p q l h k = omega arith
+gap_most true false p q l h k = omega arith
+gap_most true true p q l h k = omega arith
 
 two : Float
 two = fin false 1 (pos 1)
@@ -214,20 +214,20 @@ module _
     (tb : T (finite b))
     (order : lt a b ≡ true)
   where
-    pub difference-finite : T (finite (sub f b a))
+    pub difference_finite : T (finite (sub f b a))
     unfolding two
-    difference-finite =
+    difference_finite =
         let l = 2 ^ low f in
         let L = pow_pos (low f) in
         let e = gap (sign b) (mag f b) (sign a) (mag f a) in
-        let most = gap-most (sign b) (sign a) (mag f b) (mag f a) l (room-mag f b fb lo-b hi-b) (room-mag f a fa lo-a hi-a) in
-        let y : sub f b a ≡ round f false e l = sub-units f b a fb fa tb ta ∙ gap-sum (sign b) (sign a) (mag f b) (mag f a) (sym (lt-units f a b fa fb ta tb) ∙ order) f l in
+        let most = gap_most (sign b) (sign a) (mag f b) (mag f a) l (room_mag f b fb lo-b hi-b) (room_mag f a fa lo-a hi-a) in
+        let y : sub f b a ≡ round f false e l = sub_units f b a fb fa tb ta ∙ gap_sum (sign b) (sign a) (mag f b) (mag f a) (sym (lt_units f a b fa fb ta tb) ∙ order) f l in
         let o : T (le (round f false e l) two) =
-        subst (λ (z : Float). T (le (round f false e l) z)) (round-at f two false 2 1 (two_fits f) (omega arith) (refl, refl)) (round_mono f e l 2 1 L (omega arith) (le_trans (le_of_eq (mul-one e)) most)) in
-        rw y (plain-finite (round f false e l) (plain-under (round f false e l) two (round-clear f e l) tt o))
+        subst (λ (z : Float). T (le (round f false e l) z)) (round_at f two false 2 1 (two_fits f) (omega arith) (refl, refl)) (round_mono f e l 2 1 L (omega arith) (le_trans (le_of_eq (mul-one e)) most)) in
+        rw y (plain_finite (round f false e l) (plain_under (round f false e l) two (round_clear f e l) tt o))
 
 -- ---- and so for a and b from -1 to 1
-pub ratio-in-room : (f : Format) (a u b : Float) → T (fits f a) → T (fits f u) → T (fits f b) → T (finite a) → T (finite u) → T (finite b) → T (le minus_one64 a) → T (le a one64) → T (le minus_one64 b) → T (le b one64) →
+pub ratio_in_room : (f : Format) (a u b : Float) → T (fits f a) → T (fits f u) → T (fits f b) → T (finite a) → T (finite u) → T (finite b) → T (le minus_one64 a) → T (le a one64) → T (le minus_one64 b) → T (le b one64) →
     lt a u ≡ true → lt b u ≡ false → UpTo f one64 (div f (sub f u a) (sub f b a))
-ratio-in-room f a u b fa fu fb ta tu tb la ha lb hb above within =
-    ratio-up-to f a u b fa fu fb ta tu tb above within (difference-finite f a b fa fb la ha lb hb ta tb (below_both f a u b fa fu fb ta tu tb above within))
+ratio_in_room f a u b fa fu fb ta tu tb la ha lb hb above within =
+    ratio_up_to f a u b fa fu fb ta tu tb above within (difference_finite f a b fa fb la ha lb hb ta tb (below_both f a u b fa fu fb ta tu tb above within))

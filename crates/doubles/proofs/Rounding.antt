@@ -29,21 +29,21 @@ cmp a b = go (compare a b) (leb→le a b) (nleb→lt a b) (eqb→eq a b) (λ (e 
 abbrev Near : ℕ → ℕ → ℕ → Type 0
 Near c n u = (2 * n ≤ 2 * (c * u) + u) × (2 * (c * u) ≤ 2 * n + u)
 
-tie-near : (w r u b : ℕ) → r * 2 ≡ u → b < 2 → Near (w + b) (w * u + r) u
-tie-near w r u zero c l = rw (add-mul w 0 u) (omega arith)
-tie-near w r u (suc zero) c l = rw (add-mul w 1 u) (omega arith)
-tie-near w r u (suc (suc b)) c l = absurd (omega arith)
+tie_near : (w r u b : ℕ) → r * 2 ≡ u → b < 2 → Near (w + b) (w * u + r) u
+tie_near w r u zero c l = rw (add-mul w 0 u) (omega arith)
+tie_near w r u (suc zero) c l = rw (add-mul w 1 u) (omega arith)
+tie_near w r u (suc (suc b)) c l = absurd (omega arith)
 
 bit : (x : ℕ) → x % 2 < 2
 bit x = omega arith
 
-near-at : (w r u : ℕ) (o : Ordering) → Cmp o (r * 2) u → r < u → Near (nearest w o) (w * u + r) u
-near-at w r u Ordering.lt c h = omega arith
-near-at w r u Ordering.eq c h = tie-near w r u (w % 2) c (bit w)
-near-at w r u Ordering.gt c h = rw (suc-mul w u) (omega arith)
+near_at : (w r u : ℕ) (o : Ordering) → Cmp o (r * 2) u → r < u → Near (nearest w o) (w * u + r) u
+near_at w r u Ordering.lt c h = omega arith
+near_at w r u Ordering.eq c h = tie_near w r u (w % 2) c (bit w)
+near_at w r u Ordering.gt c h = rw (suc-mul w u) (omega arith)
 
-pub closest-near : (n u : ℕ) → 0 < u → Near (closest n u) n u
-closest-near n u U = subst (λ (z : ℕ). Near (closest n u) z u) (div-add-mod' n u) (near-at (n / u) (n % u) u (compare (n % u * 2) u) (cmp (n % u * 2) u) (mod-lt n U))
+pub closest_near : (n u : ℕ) → 0 < u → Near (closest n u) n u
+closest_near n u U = subst (λ (z : ℕ). Near (closest n u) z u) (div-add-mod' n u) (near_at (n / u) (n % u) u (compare (n % u * 2) u) (cmp (n % u * 2) u) (mod-lt n U))
 
 -- ---- and a number that is nearer than a half is the nearest
 apart : (c q u n : ℕ) → c < q → 2 * n ≤ 2 * (c * u) + u → 2 * (q * u) < 2 * n + u → ⊥
@@ -52,38 +52,38 @@ apart c q u n h a b = let k : suc c * u ≤ q * u = mul-le-mul_right u h in let 
 apart' : (c q u n : ℕ) → q < c → 2 * (c * u) ≤ 2 * n + u → 2 * n < 2 * (q * u) + u → ⊥
 apart' c q u n h a b = let k : suc q * u ≤ c * u = mul-le-mul_right u h in let e = suc-mul q u in omega arith
 
-pub closest-is : (n u q : ℕ) → 0 < u → 2 * (q * u) < 2 * n + u → 2 * n < 2 * (q * u) + u → closest n u ≡ q
-closest-is n u q U a b =
-    let c = closest-near n u U in
+pub closest_is : (n u q : ℕ) → 0 < u → 2 * (q * u) < 2 * n + u → 2 * n < 2 * (q * u) + u → closest n u ≡ q
+closest_is n u q U a b =
+    let c = closest_near n u U in
     le_antisymm (le_of_suc-le-suc (lt_of_not-le (λ (g : suc q ≤ closest n u). apart' (closest n u) q u n g c.1 b)))
     (le_of_suc-le-suc (lt_of_not-le (λ (g : suc (closest n u) ≤ q). apart (closest n u) q u n g c.0 a)))
 
 -- ---- moved by an even number, which keeps a half even
-nearest-moved : (w q : ℕ) (o : Ordering) → w % 2 ≡ 0 → nearest (w + q) o ≡ w + nearest q o
-nearest-moved w q Ordering.lt h = omega arith
-nearest-moved w q Ordering.eq h = omega arith
-nearest-moved w q Ordering.gt h = omega arith
+nearest_moved : (w q : ℕ) (o : Ordering) → w % 2 ≡ 0 → nearest (w + q) o ≡ w + nearest q o
+nearest_moved w q Ordering.lt h = omega arith
+nearest_moved w q Ordering.eq h = omega arith
+nearest_moved w q Ordering.gt h = omega arith
 
-rest-moved : (w n u : ℕ) → 0 < u → (w * u + n) % u ≡ n % u
-rest-moved w n u U =
+rest_moved : (w n u : ℕ) → 0 < u → (w * u + n) % u ≡ n % u
+rest_moved w n u U =
     let d = mul-add-div_right U w n in
     let e : (w + n / u) * u + (w * u + n) % u ≡ w * u + n = ap (λ (q : ℕ). q * u + (w * u + n) % u) (sym d) ∙ div-add-mod' (w * u + n) u in
     let f = div-add-mod' n u in
     let g = add-mul w (n / u) u in
     omega arith
 
-pub closest-moved : (w n u : ℕ) → 0 < u → w % 2 ≡ 0 → closest (w * u + n) u ≡ w + closest n u
-closest-moved w n u U h =
+pub closest_moved : (w n u : ℕ) → 0 < u → w % 2 ≡ 0 → closest (w * u + n) u ≡ w + closest n u
+closest_moved w n u U h =
     ap (λ (q : ℕ). nearest q (compare ((w * u + n) % u * 2) u)) (mul-add-div_right U w n)
-    ∙ ap (λ (r : ℕ). nearest (w + n / u) (compare (r * 2) u)) (rest-moved w n u U)
-    ∙ nearest-moved w (n / u) (compare (n % u * 2) u) h
+    ∙ ap (λ (r : ℕ). nearest (w + n / u) (compare (r * 2) u)) (rest_moved w n u U)
+    ∙ nearest_moved w (n / u) (compare (n % u * 2) u) h
 
 -- ---- `round`: of n / den in units of the smallest value, `drop` digits are dropped
 all_in_use : (z p : ℕ) → 0 < p → 0 < z - p → p - 1 + (z - p) < z
 all_in_use z p P h = omega arith
 
-kept-ge : (p n den : ℕ) → 0 < p → 0 < drop p n den → 2 ^ (p - 1) ≤ kept p n den
-kept-ge p n den P K =
+kept_ge : (p n den : ℕ) → 0 < p → 0 < drop p n den → 2 ^ (p - 1) ≤ kept p n den
+kept_ge p n den P K =
     let k = drop p n den in
     let u = den * 2 ^ k in
     let w = n / den in
@@ -92,7 +92,7 @@ kept-ge p n den P K =
 
 -- the last digit kept weighs no more than 2 ^ (1 - prec) of the result, but for a weight of 1
 pub step_small : (p n den : ℕ) → 0 < p → (drop p n den ≡ 0) ⊎ (2 ^ (p - 1) * 2 ^ drop p n den ≤ kept p n den * 2 ^ drop p n den)
-step_small p n den P = elim (eq-zero-or-pos (drop p n den)) [ inl z ↦ inl z | inr h ↦ inr (mul-le-mul_right (2 ^ drop p n den) (kept-ge p n den P h)) ]
+step_small p n den P = elim (eq-zero-or-pos (drop p n den)) [ inl z ↦ inl z | inr h ↦ inr (mul-le-mul_right (2 ^ drop p n den) (kept_ge p n den P h)) ]
 
 regroup : (c k n d : ℕ) → Near c n (d * k) → (2 * n ≤ (2 * (c * k) + k) * d) × (2 * (c * k) * d ≤ 2 * n + k * d)
 regroup c k n d h =
@@ -105,19 +105,19 @@ regroup c k n d h =
     omega arith
 
 -- the rounded value, in units, is within half of the weight of its last digit
-pub grid-near : (f : Format) (a c : ℕ) → 0 < c
+pub grid_near : (f : Format) (a c : ℕ) → 0 < c
     → (2 * (a * 2 ^ low f) ≤ (2 * grid f a c + 2 ^ drop (prec f) (a * 2 ^ low f) c) * c) × (2 * grid f a c * c ≤ 2 * (a * 2 ^ low f) + 2 ^ drop (prec f) (a * 2 ^ low f) c * c)
-grid-near f a c C =
+grid_near f a c C =
     let n = a * 2 ^ low f in
     let k = drop (prec f) n c in
-    regroup (kept (prec f) n c) (2 ^ k) n c (closest-near n (c * 2 ^ k) (mul-pos C (pow_pos k)))
+    regroup (kept (prec f) n c) (2 ^ k) n c (closest_near n (c * 2 ^ k) (mul-pos C (pow_pos k)))
 
 -- ---- how many digits are dropped of a fraction that is from 2 ^ (p - 1) up and below 2 ^ p times 2 ^ k
-size-gt : (n j : ℕ) → 2 ^ j ≤ n → j < size n
-size-gt n j h = lt_of_not-le (λ (g : size n ≤ j). lt_irrefl n (lt_of_lt_of_le (size-lt n) (le_trans (pow_mono g) h)))
+size_gt : (n j : ℕ) → 2 ^ j ≤ n → j < size n
+size_gt n j h = lt_of_not-le (λ (g : size n ≤ j). lt_irrefl n (lt_of_lt_of_le (size-lt n) (le_trans (pow_mono g) h)))
 
-pub drop-is : (p n c k : ℕ) → 0 < p → 0 < c → (k ≡ 0) ⊎ (2 ^ (p - 1) * 2 ^ k * c ≤ n) → n < 2 ^ p * 2 ^ k * c → drop p n c ≡ k
-drop-is p n c k P C lo hi =
+pub drop_is : (p n c k : ℕ) → 0 < p → 0 < c → (k ≡ 0) ⊎ (2 ^ (p - 1) * 2 ^ k * c ≤ n) → n < 2 ^ p * 2 ^ k * c → drop p n c ≡ k
+drop_is p n c k P C lo hi =
     go lo (size-le (n / c) (p + k) ((div-lt_iff_lt-mul C).1 (lt_of_lt_of_le hi (le_of_eq (ap (λ (z : ℕ). z * c) (sym (pow-add 2 p k)))))))
   where
     none : (z : ℕ) → z ≤ p + k → k ≡ 0 → z - p ≡ k
@@ -128,13 +128,13 @@ drop-is p n c k P C lo hi =
 
     go : (k ≡ 0) ⊎ (2 ^ (p - 1) * 2 ^ k * c ≤ n) → size (n / c) ≤ p + k → size (n / c) - p ≡ k
     go (inl e) h = none (size (n / c)) h e
-    go (inr l) h = some (size (n / c)) h (size-gt (n / c) (p - 1 + k) ((le-div_iff_mul-le C).1 (le_trans (le_of_eq (ap (λ (z : ℕ). z * c) (pow-add 2 (p - 1) k))) l)))
+    go (inr l) h = some (size (n / c)) h (size_gt (n / c) (p - 1 + k) ((le-div_iff_mul-le C).1 (le_trans (le_of_eq (ap (λ (z : ℕ). z * c) (pow-add 2 (p - 1) k))) l)))
 
 -- `round`, of a fraction that is nearer than half a unit to g units of 2 ^ k
-pub round-near : (f : Format) (s : Bool) (a c g k : ℕ) → 0 < c → (k ≡ 0) ⊎ (2 ^ (prec f - 1) * 2 ^ k * c ≤ a * 2 ^ low f) → a * 2 ^ low f < 2 ^ prec f * 2 ^ k * c
+pub round_near : (f : Format) (s : Bool) (a c g k : ℕ) → 0 < c → (k ≡ 0) ⊎ (2 ^ (prec f - 1) * 2 ^ k * c ≤ a * 2 ^ low f) → a * 2 ^ low f < 2 ^ prec f * 2 ^ k * c
     → 2 * (g * (c * 2 ^ k)) < 2 * (a * 2 ^ low f) + c * 2 ^ k → 2 * (a * 2 ^ low f) < 2 * (g * (c * 2 ^ k)) + c * 2 ^ k → round f s a c ≡ units f s g k
-round-near f s a c g k C lo hi under over =
+round_near f s a c g k C lo hi under over =
     let n = a * 2 ^ low f in
     round_is f s a c
-    ∙ ap (λ (z : ℕ). units f s (closest n (c * 2 ^ z)) z) (drop-is (prec f) n c k (two-le_pos (prec f) (two f)) C lo hi)
-    ∙ ap (λ (z : ℕ). units f s z k) (closest-is n (c * 2 ^ k) g (mul-pos C (pow_pos k)) under over)
+    ∙ ap (λ (z : ℕ). units f s (closest n (c * 2 ^ z)) z) (drop_is (prec f) n c k (two-le_pos (prec f) (two f)) C lo hi)
+    ∙ ap (λ (z : ℕ). units f s z k) (closest_is n (c * 2 ^ k) g (mul-pos C (pow_pos k)) under over)

@@ -10,47 +10,47 @@ use lib.Ieee.Bits.{of_bits-to_bits, cond_no}
 use lib.Ieee.Exact.{HasValue, odd_sign}
 use lib.Ieee.Scale.{finite}
 use Rattle.doubles.specs.Root.{sqrt_of, round_root, square_units, NearRoot}
-use Rattle.doubles.proofs.Magnitude.{mag, mag_of, mag-val, plain}
+use Rattle.doubles.proofs.Magnitude.{mag, mag_of, mag_val, plain}
 use Rattle.doubles.proofs.PowersOfTwo.{of_bits_is}
 use Rattle.doubles.proofs.Floors.{zero_f, no}
-use Rattle.doubles.proofs.Roots.{root-near}
-use Rattle.doubles.proofs.Bound.{four, zero-mag}
+use Rattle.doubles.proofs.Roots.{root_near}
+use Rattle.doubles.proofs.Bound.{four, zero_mag}
 
 -- ---- what is near √x is `sqrt_of x`
-near-at : (num den X : ℕ) (r : Float) → 0 < den → num * 2 ^ 1074 ≡ X * den → NearRoot (X * 2 ^ 1074) r → r ≡ round_root binary64 num den
-near-at num den X r D e n =
+near_at : (num den X : ℕ) (r : Float) → 0 < den → num * 2 ^ 1074 ≡ X * den → NearRoot (X * 2 ^ 1074) r → r ≡ round_root binary64 num den
+near_at num den X r D e n =
     let l = 2 ^ 1074 in
     let W : num * (2 * l * (2 * l)) ≡ 4 * (X * l) * den = four num den l X e in
     n.is
-    ∙ sym (root-near binary64 num den n.g n.k D
+    ∙ sym (root_near binary64 num den n.g n.k D
     (inr (le_trans (mul-le-mul_right den n.lo) (le_of_eq (sym W))))
     (lt_of_le_of_lt (le_of_eq W) (mul-lt-mul_of_pos_right n.hi D))
     (lt_of_lt_of_le (mul-lt-mul_of_pos_right n.under D) (le_of_eq (sym W)))
     (lt_of_le_of_lt (le_of_eq W) (mul-lt-mul_of_pos_right n.over D)))
 
-pub near-sqrt : (x : Float) (r : Float) → T (fits binary64 x) → T (plain x) → 1 ≤ mag binary64 x → NearRoot (square_units x) r → r ≡ sqrt_of binary64 x
+pub near_sqrt : (x : Float) (r : Float) → T (fits binary64 x) → T (plain x) → 1 ≤ mag binary64 x → NearRoot (square_units x) r → r ≡ sqrt_of binary64 x
 unfolding sqrt_of
-near-sqrt nan r h p o n = absurd p
-near-sqrt (inf s) r h p o n = absurd p
-near-sqrt (fin true m e) r h p o n = absurd p
-near-sqrt (fin false zero e) r h p o n = absurd (lt_irrefl 0 (lt_of_lt_of_le o (le_of_eq (zero-mag (2 ^ 1074) (down e) (up e)))))
-near-sqrt (fin false (suc m) e) r h p o n = near-at (suc m * up e) (down e) (mag binary64 (fin false (suc m) e)) r (down_pos e) (mag-val binary64 (fin false (suc m) e) h tt).1 n
+near_sqrt nan r h p o n = absurd p
+near_sqrt (inf s) r h p o n = absurd p
+near_sqrt (fin true m e) r h p o n = absurd p
+near_sqrt (fin false zero e) r h p o n = absurd (lt_irrefl 0 (lt_of_lt_of_le o (le_of_eq (zero_mag (2 ^ 1074) (down e) (up e)))))
+near_sqrt (fin false (suc m) e) r h p o n = near_at (suc m * up e) (down e) (mag binary64 (fin false (suc m) e)) r (down_pos e) (mag_val binary64 (fin false (suc m) e) h tt).1 n
 
 -- x in units, and 2 ^ 1074 times that
-pub square-units : (x : Float) → mag binary64 x * 2 ^ 1074 ≡ square_units x
-square-units nan = refl
-square-units (inf s) = refl
-square-units (fin s m e) = refl
+pub square_units_lem : (x : Float) → mag binary64 x * 2 ^ 1074 ≡ square_units x
+square_units_lem nan = refl
+square_units_lem (inf s) = refl
+square_units_lem (fin s m e) = refl
 
 pub near_by : (x : Float) (v : ℕ) (r : Float) → mag binary64 x * 2 ^ 1074 ≡ v → NearRoot v r → NearRoot (square_units x) r
-near_by x v r e n = subst (λ (z : ℕ). NearRoot z r) (sym e ∙ square-units x) n
+near_by x v r e n = subst (λ (z : ℕ). NearRoot z r) (sym e ∙ square_units_lem x) n
 
 -- ---- the fields of a pattern whose value is finite and has no sign
-plain-sign : (x : Float) (s : Bool) (a c : ℕ) → T (plain x) → HasValue x s a c → s ≡ false
-plain-sign nan s a c p h = absurd p
-plain-sign (inf t) s a c p h = absurd p
-plain-sign (fin true m e) s a c p h = absurd p
-plain-sign (fin false m e) s a c p h = sym h.0
+plain_sign : (x : Float) (s : Bool) (a c : ℕ) → T (plain x) → HasValue x s a c → s ≡ false
+plain_sign nan s a c p h = absurd p
+plain_sign (inf t) s a c p h = absurd p
+plain_sign (fin true m e) s a c p h = absurd p
+plain_sign (fin false m e) s a c p h = sym h.0
 
 abbrev Read : Bool → ℕ → ℕ → Float → Type 0
 Read s F t x = (s ≡ false) × (((F ≡ 0) × HasValue x false (t * 2 ^ 0) (2 ^ 1074)) ⊎ ((j : ℕ) × (F ≡ suc j) × T (not (eqb (suc j) 2047)) × HasValue x false ((2 ^ 52 + t) * 2 ^ j) (2 ^ 1074)))
@@ -64,22 +64,22 @@ read : (s : Bool) (F t : ℕ) → T (plain (of_fields binary64 s F t)) → Read 
 unfolding of_fields
 read s zero t p =
     let v = odd_sign 53 s t 0 1074 in
-    let z = plain-sign (odd 53 s t 0 1074) s (t * 2 ^ 0) (2 ^ 1074) p v in
+    let z = plain_sign (odd 53 s t 0 1074) s (t * 2 ^ 0) (2 ^ 1074) p v in
     (z, inl (refl, subst (λ (b : Bool). HasValue (odd 53 s t 0 1074) b (t * 2 ^ 0) (2 ^ 1074)) z v))
 read s (suc j) t p =
     let x = odd 53 s (2 ^ 52 + t) j 1074 in
     let n = at_top (eqb (suc j) 2047) (eqb t 0) s x p in
     let i = cond_no (eqb (suc j) 2047) (cond (eqb t 0) (inf s) nan) x n in
     let v = odd_sign 53 s (2 ^ 52 + t) j 1074 in
-    let z = plain-sign x s ((2 ^ 52 + t) * 2 ^ j) (2 ^ 1074) (subst (λ (y : Float). T (plain y)) i p) v in
+    let z = plain_sign x s ((2 ^ 52 + t) * 2 ^ j) (2 ^ 1074) (subst (λ (y : Float). T (plain y)) i p) v in
     (z, inr (j, refl, n, subst (λ (y : Float). HasValue y false ((2 ^ 52 + t) * 2 ^ j) (2 ^ 1074)) (sym i) (subst (λ (b : Bool). HasValue x b ((2 ^ 52 + t) * 2 ^ j) (2 ^ 1074)) z v)))
 
 -- b's field, and the value in units
 abbrev pub Shape : ℕ → ℕ → Type 0
 Shape b X = (b < 2 ^ 63) × (((b / 2 ^ 52 ≡ 0) × (X ≡ b)) ⊎ ((j : ℕ) × (b / 2 ^ 52 ≡ suc j) × (j < 2046) × (X ≡ (2 ^ 52 + b % 2 ^ 52) * 2 ^ j)))
 
-shape-read : (b : ℕ) (x : Float) → Read (leb (2 ^ 63) b) (b % 2 ^ 63 / 2 ^ 52) (b % 2 ^ 52) x → Shape b (mag binary64 x)
-shape-read b x r = (small, go r.1)
+shape_read : (b : ℕ) (x : Float) → Read (leb (2 ^ 63) b) (b % 2 ^ 63 / 2 ^ 52) (b % 2 ^ 52) x → Shape b (mag binary64 x)
+shape_read b x r = (small, go r.1)
   where
     small : b < 2 ^ 63
     small = nleb→lt (2 ^ 63) b (no r.0)
@@ -103,7 +103,7 @@ pub shape : (x : Float) → T (fits binary64 x) → T (plain x) → Shape (to_bi
 shape x h p =
     let b = to_bits binary64 x in
     let i : of_fields binary64 (leb (2 ^ 63) b) (b % 2 ^ 63 / 2 ^ 52) (b % 2 ^ 52) ≡ x = sym (of_bits_is b) ∙ of_bits-to_bits binary64 x h in
-    shape-read b x (subst (λ (y : Float). Read (leb (2 ^ 63) b) (b % 2 ^ 63 / 2 ^ 52) (b % 2 ^ 52) y) i (read (leb (2 ^ 63) b) (b % 2 ^ 63 / 2 ^ 52) (b % 2 ^ 52) (subst (λ (y : Float). T (plain y)) (sym i) p)))
+    shape_read b x (subst (λ (y : Float). Read (leb (2 ^ 63) b) (b % 2 ^ 63 / 2 ^ 52) (b % 2 ^ 52) y) i (read (leb (2 ^ 63) b) (b % 2 ^ 63 / 2 ^ 52) (b % 2 ^ 52) (subst (λ (y : Float). T (plain y)) (sym i) p)))
 
 -- ---- a normal x: its digits under a leading one, and its field
 abbrev pub digits53 : ℕ → ℕ
@@ -173,29 +173,29 @@ subnormal b X s o e = go s.1
     below : (b : ℕ) → b / 2 ^ 52 ≡ 0 → b < 2 ^ 52
     below b e = omega arith
 
-    not-suc : (f j : ℕ) → f ≡ 0 → f ≡ suc j → ⊥
-    not-suc f j z e = omega arith
+    not_suc : (f j : ℕ) → f ≡ 0 → f ≡ suc j → ⊥
+    not_suc f j z e = omega arith
 
     go : ((b / 2 ^ 52 ≡ 0) × (X ≡ b)) ⊎ ((j : ℕ) × (b / 2 ^ 52 ≡ suc j) × (j < 2046) × (X ≡ (2 ^ 52 + b % 2 ^ 52) * 2 ^ j)) → (X ≡ b) × Moved b (count_leading_zeros 64 b)
     go (inl p) =
         let t = leading_top 64 b (lt_of_lt_of_le o (le_of_eq p.1)) (lt_of_lt_of_le s.0 (lit≤ tt)) in
         (p.1, moved b (count_leading_zeros 64 b) t.0 t.1 t.2 t.3 (below b e))
-    go (inr p) = absurd (not-suc (b / 2 ^ 52) p.0 e p.1)
+    go (inr p) = absurd (not_suc (b / 2 ^ 52) p.0 e p.1)
 
 -- ---- the tests on x
-pub inf-is : div binary64 (of_bits binary64 0x3ff0_0000_0000_0000) (of_bits binary64 0) ≡ inf false
+pub inf_is : div binary64 (of_bits binary64 0x3ff0_0000_0000_0000) (of_bits binary64 0) ≡ inf false
 unfolding div of_bits
-inf-is = refl
+inf_is = refl
 
 pub nan_is : div binary64 (of_bits binary64 0) (of_bits binary64 0) ≡ nan
 unfolding div of_bits
 nan_is = refl
 
-pub over-no-nan : (x : Float) → T (lt zero_f x) → T (not (is_nan x))
+pub over_no_nan : (x : Float) → T (lt zero_f x) → T (not (is_nan x))
 unfolding lt is_nan
-over-no-nan nan p = absurd p
-over-no-nan (inf s) p = tt
-over-no-nan (fin s m e) p = tt
+over_no_nan nan p = absurd p
+over_no_nan (inf s) p = tt
+over_no_nan (fin s m e) p = tt
 
 -- above zero and finite, or below the infinity
 pub is_plain : (x : Float) → T (lt zero_f x) → T (finite x) → T (plain x)
@@ -205,26 +205,26 @@ is_plain (inf s) p q = absurd q
 is_plain (fin true m e) p q = absurd p
 is_plain (fin false m e) p q = tt
 
-pub under-inf : (x : Float) → T (lt zero_f x) → T (lt x (inf false)) → T (finite x)
+pub under_inf : (x : Float) → T (lt zero_f x) → T (lt x (inf false)) → T (finite x)
 unfolding lt
-under-inf nan p q = absurd p
-under-inf (inf true) p q = absurd p
-under-inf (inf false) p q = absurd q
-under-inf (fin s m e) p q = tt
+under_inf nan p q = absurd p
+under_inf (inf true) p q = absurd p
+under_inf (inf false) p q = absurd q
+under_inf (fin s m e) p q = tt
 
-pub not-under-inf : (x : Float) → T (finite x) → T (not (lt x (inf false))) → ⊥
+pub not_under_inf : (x : Float) → T (finite x) → T (not (lt x (inf false))) → ⊥
 unfolding lt
-not-under-inf nan t q = absurd t
-not-under-inf (inf s) t q = absurd t
-not-under-inf (fin s m e) t q = absurd q
+not_under_inf nan t q = absurd t
+not_under_inf (inf s) t q = absurd t
+not_under_inf (fin s m e) t q = absurd q
 
-pub at-inf : (x : Float) → T (lt zero_f x) → T (not (lt x (inf false))) → x ≡ sqrt_of binary64 x
+pub at_inf : (x : Float) → T (lt zero_f x) → T (not (lt x (inf false))) → x ≡ sqrt_of binary64 x
 unfolding lt sqrt_of
-at-inf nan p q = absurd p
-at-inf (inf true) p q = absurd p
-at-inf (inf false) p q = refl
-at-inf (fin true m e) p q = absurd p
-at-inf (fin false m e) p q = absurd q
+at_inf nan p q = absurd p
+at_inf (inf true) p q = absurd p
+at_inf (inf false) p q = refl
+at_inf (fin true m e) p q = absurd p
+at_inf (fin false m e) p q = absurd q
 
 pub at_zero : (x : Float) → T (eq x zero_f) → x ≡ sqrt_of binary64 x
 unfolding eq sqrt_of
@@ -237,19 +237,19 @@ at_zero (fin s (suc m) e) p = absurd (some m e (eqb→eq (suc m * up e * 1) (0 *
     some m e h = lt_irrefl 0 (lt_of_lt_of_le (mul-pos (mul-pos (zero-lt-suc m) (up_pos e)) (zero-lt-suc 0)) (le_of_eq (h ∙ zero-mul (down e))))
 
 -- neither above zero nor zero: a NaN, or below zero
-zero-level : (s : Bool) (a b : ℕ) → a ≡ 0 → b ≡ 0 → T (not (eqb a b && (beq s false || eqb a 0))) → ⊥
-zero-level s a b x y h = at s (subst (λ (z : ℕ). T (not (eqb 0 z && (beq s false || eqb 0 0)))) y (subst (λ (z : ℕ). T (not (eqb z b && (beq s false || eqb z 0)))) x h))
+zero_level : (s : Bool) (a b : ℕ) → a ≡ 0 → b ≡ 0 → T (not (eqb a b && (beq s false || eqb a 0))) → ⊥
+zero_level s a b x y h = at s (subst (λ (z : ℕ). T (not (eqb 0 z && (beq s false || eqb 0 0)))) y (subst (λ (z : ℕ). T (not (eqb z b && (beq s false || eqb z 0)))) x h))
   where
     at : (s : Bool) → T (not (eqb 0 0 && (beq s false || eqb 0 0))) → ⊥
     at true h = h
     at false h = h
 
-pub at-minus : (x : Float) → T (not (lt zero_f x)) → T (not (eq x zero_f)) → nan ≡ sqrt_of binary64 x
+pub at_minus : (x : Float) → T (not (lt zero_f x)) → T (not (eq x zero_f)) → nan ≡ sqrt_of binary64 x
 unfolding lt eq sqrt_of
-at-minus nan p q = refl
-at-minus (inf true) p q = refl
-at-minus (inf false) p q = absurd p
-at-minus (fin s zero e) p q = absurd (zero-level s (0 * up e * 1) (0 * 1 * down e) (ap (λ (z : ℕ). z * 1) (zero-mul (up e))) (zero-mul (down e)) q)
-at-minus (fin true (suc m) e) p q = refl
-at-minus (fin false (suc m) e) p q =
+at_minus nan p q = refl
+at_minus (inf true) p q = refl
+at_minus (inf false) p q = absurd p
+at_minus (fin s zero e) p q = absurd (zero_level s (0 * up e * 1) (0 * 1 * down e) (ap (λ (z : ℕ). z * 1) (zero-mul (up e))) (zero-mul (down e)) q)
+at_minus (fin true (suc m) e) p q = refl
+at_minus (fin false (suc m) e) p q =
     absurd (lt_irrefl 0 (lt_of_lt_of_le (mul-pos (mul-pos (zero-lt-suc m) (up_pos e)) (zero-lt-suc 0)) (le_trans (nltb→le (0 * 1 * down e) (suc m * up e * 1) p) (le_of_eq (zero-mul (down e))))))

@@ -12,7 +12,7 @@ use lib.Ieee.Exact.{HasValue}
 use lib.Ieee.Positive.{num, den, den_pos}
 use Rattle.doubles.specs.Arithmetic.{◌⊕◌, ◌⊖◌, ◌⊗◌, ◌⊘◌, zero64}
 use Rattle.doubles.proofs.Signs.{clear}
-use Rattle.doubles.proofs.Laws.{div-clear}
+use Rattle.doubles.proofs.Laws.{div_clear}
 use Rattle.extent.proofs.Tests.{at_least}
 
 -- 0.7
@@ -64,11 +64,11 @@ quotient_is : (a c : ℕ) → fin false a (pos 0) ⊘ fin false (suc c) (pos 0) 
 unfolding div
 quotient_is a c = ap (λ (b : Bool). cond b (cond (eqb a 0) nan (inf false)) (round binary64 false (a * 1 * 1) (suc c * 1 * 1))) (eqb-suc-zero c)
 
-round-clear : (a c : ℕ) → 0 < c → T (clear (round binary64 false a c))
-round-clear a zero C = absurd (lt_irrefl 0 C)
-round-clear a (suc c) C =
+round_clear : (a c : ℕ) → 0 < c → T (clear (round binary64 false a c))
+round_clear a zero C = absurd (lt_irrefl 0 C)
+round_clear a (suc c) C =
     let e = quotient_is a c ∙ ap (λ (n : ℕ). round binary64 false n (suc c * 1 * 1)) (twice a) ∙ ap (round binary64 false a) (twice (suc c)) in
-    subst (λ (z : Float). T (clear z)) e (div-clear (fin false a (pos 0)) (fin false (suc c) (pos 0)) tt tt)
+    subst (λ (z : Float). T (clear z)) e (div_clear (fin false a (pos 0)) (fin false (suc c) (pos 0)) tt tt)
   where
     twice : (n : ℕ) → n * 1 * 1 ≡ n
     twice n = omega arith
@@ -80,7 +80,7 @@ Within z hi = T (plain z) × Under z hi
 pub within : (a c n d : ℕ) (hi : Float) → 0 < c → 0 < d → a * d ≤ n * c → round binary64 false n d ≡ hi → T (plain hi) → Within (round binary64 false a c) hi
 within a c n d hi C D h e q =
     let l : T (le (round binary64 false a c) hi) = subst (λ (z : Float). T (le (round binary64 false a c) z)) e (round_mono binary64 a c n d C D h) in
-    let p = plain_of (round binary64 false a c) hi (round-clear a c C) l q in
+    let p = plain_of (round binary64 false a c) hi (round_clear a c C) l q in
     (p, under_of (round binary64 false a c) hi p q l)
 
 -- ---- the operations on plain values
@@ -96,23 +96,23 @@ mul_at (fin false m e) (fin true n d) p q = absurd q
 mul_at (fin false m e) (fin false n d) p q = refl
 
 -- by a value above 0
-pub div-at : (x y : Float) → T (plain x) → T (plain y) → T (lt zero64 y) → x ⊘ y ≡ round binary64 false (num x * den y) (num y * den x)
+pub div_at : (x y : Float) → T (plain x) → T (plain y) → T (lt zero64 y) → x ⊘ y ≡ round binary64 false (num x * den y) (num y * den x)
 unfolding div lt
-div-at nan y p q h = absurd p
-div-at (inf s) y p q h = absurd p
-div-at (fin true m e) y p q h = absurd p
-div-at (fin false m e) nan p q h = absurd q
-div-at (fin false m e) (inf s) p q h = absurd q
-div-at (fin false m e) (fin true n d) p q h = absurd q
-div-at (fin false m e) (fin false zero d) p q h = let l = ltb→lt (0 * 1 * down d) (0 * up d * 1) h in absurd (omega arith)
-div-at (fin false m e) (fin false (suc n) d) p q h = ap (λ (b : Bool). cond b (cond (eqb m 0) nan (inf false)) (round binary64 false (m * up e * down d) (suc n * up d * down e))) (eqb-suc-zero n)
+div_at nan y p q h = absurd p
+div_at (inf s) y p q h = absurd p
+div_at (fin true m e) y p q h = absurd p
+div_at (fin false m e) nan p q h = absurd q
+div_at (fin false m e) (inf s) p q h = absurd q
+div_at (fin false m e) (fin true n d) p q h = absurd q
+div_at (fin false m e) (fin false zero d) p q h = let l = ltb→lt (0 * 1 * down d) (0 * up d * 1) h in absurd (omega arith)
+div_at (fin false m e) (fin false (suc n) d) p q h = ap (λ (b : Bool). cond b (cond (eqb m 0) nan (inf false)) (round binary64 false (m * up e * down d) (suc n * up d * down e))) (eqb-suc-zero n)
 
-pub above-num : (y : Float) → T (plain y) → T (lt zero64 y) → 0 < num y
+pub above_num : (y : Float) → T (plain y) → T (lt zero64 y) → 0 < num y
 unfolding lt
-above-num nan q h = absurd q
-above-num (inf s) q h = absurd q
-above-num (fin true n d) q h = absurd q
-above-num (fin false n d) q h = let l = ltb→lt (0 * 1 * down d) (n * up d * 1) h in omega arith
+above_num nan q h = absurd q
+above_num (inf s) q h = absurd q
+above_num (fin true n d) q h = absurd q
+above_num (fin false n d) q h = let l = ltb→lt (0 * 1 * down d) (n * up d * 1) h in omega arith
 
 -- ---- fractions
 
@@ -124,11 +124,11 @@ record Knots (A B D R U W : Float) : Type 0 where
   to : T (plain U)
   order : Under A B
   step : T (plain D)
-  step-above : T (lt zero64 D)
+  step_above : T (lt zero64 D)
   step_is : B ⊖ A ≡ D
   rise : T (plain W)
-  rise-is : U ⊖ R ≡ W
-  rise-exact : round binary64 false (num W) (den W) ≡ W
+  rise_is : U ⊖ R ≡ W
+  rise_exact : round binary64 false (num W) (den W) ≡ W
   sum_is : R ⊕ W ≡ U
   most : Under U top
 

@@ -14,9 +14,9 @@ use Rattle.extent.specs.declared.Reading.TheVariants.{Refused, Read}
 use Rattle.extent.specs.Extent.{question7, question18, question19, extent_questions, mean_of, mean_radius, read_of}
 
 -- each of the three has a number from 1 up
-pub extent-numbered : (e : Extent) → Numbered (extent_questions e)
+pub extent_numbered : (e : Extent) → Numbered (extent_questions e)
 unfolding extent_questions
-extent-numbered e = (omega arith, (omega arith, (omega arith, tt)))
+extent_numbered e = (omega arith, (omega arith, (omega arith, tt)))
 
 -- ---- the parts of a reading
 is_read : Reading → Bool
@@ -33,21 +33,21 @@ radius_in d (Refused q) = d
 
 module _ (e : Extent) where
   -- ---- the first no, by the answers up to it
-  pub extent-7 : question7 e ≡ false → 7 ≡ first_no (extent_questions e)
+  pub extent_7 : question7 e ≡ false → 7 ≡ first_no (extent_questions e)
   unfolding extent_questions
-  extent-7 a = rw a
+  extent_7 a = rw a
 
-  pub extent-18 : question7 e ≡ true → question18 e ≡ false → 18 ≡ first_no (extent_questions e)
+  pub extent_18 : question7 e ≡ true → question18 e ≡ false → 18 ≡ first_no (extent_questions e)
   unfolding extent_questions
-  extent-18 a b = rw (a, b)
+  extent_18 a b = rw (a, b)
 
-  pub extent-19 : question7 e ≡ true → question18 e ≡ true → question19 e ≡ false → 19 ≡ first_no (extent_questions e)
+  pub extent_19 : question7 e ≡ true → question18 e ≡ true → question19 e ≡ false → 19 ≡ first_no (extent_questions e)
   unfolding extent_questions
-  extent-19 a b c = rw (a, b, c)
+  extent_19 a b c = rw (a, b, c)
 
-  pub extent-none : question7 e ≡ true → question18 e ≡ true → question19 e ≡ true → 0 ≡ first_no (extent_questions e)
+  pub extent_none : question7 e ≡ true → question18 e ≡ true → question19 e ≡ true → 0 ≡ first_no (extent_questions e)
   unfolding extent_questions
-  extent-none a b c = rw (a, b, c)
+  extent_none a b c = rw (a, b, c)
 
   -- ---- the reading by that number
   abbrev accepted : Reading
@@ -57,8 +57,8 @@ module _ (e : Extent) where
     reads : read_of e ≡ cond (eqb q 0) accepted (Refused q)
     reads = ap (λ (k : ℕ). cond (eqb k 0) accepted (Refused k)) (sym f)
 
-    pub read-yes : q ≡ 0 → read_of e ≡ accepted
-    read-yes h = reads ∙ ap (λ (b : Bool). cond b accepted (Refused q)) (eq-eqb q 0 h)
+    pub read_yes : q ≡ 0 → read_of e ≡ accepted
+    read_yes h = reads ∙ ap (λ (b : Bool). cond b accepted (Refused q)) (eq-eqb q 0 h)
 
     pub read_no : (q ≡ 0 → ⊥) → read_of e ≡ Refused q
     read_no h = reads ∙ ap (λ (b : Bool). cond b accepted (Refused q)) (ne_eqb q 0 h)
@@ -74,8 +74,8 @@ module _ (e : Extent) where
       go true t k = absurd (true≢false (unfold is_read in ap is_read k))
       go false t k = (sym (unfold number in ap number k), λ z. true≢false (sym (eq-eqb asked 0 z) ∙ t))
 
-  pub read-says : (mean : ℕ) (radius : Float) → read_of e ≡ Read mean radius → (asked ≡ 0) × (mean ≡ mean_of e) × (radius ≡ mean_radius (mean_of e))
-  read-says mean radius r = go (eqb asked 0) refl r
+  pub read_says : (mean : ℕ) (radius : Float) → read_of e ≡ Read mean radius → (asked ≡ 0) × (mean ≡ mean_of e) × (radius ≡ mean_radius (mean_of e))
+  read_says mean radius r = go (eqb asked 0) refl r
     where
       go : (b : Bool) → eqb asked 0 ≡ b → cond b accepted (Refused asked) ≡ Read mean radius → (asked ≡ 0) × (mean ≡ mean_of e) × (radius ≡ mean_radius (mean_of e))
       go true t k = (eqb-true asked 0 t, sym (unfold number in ap number k), sym (unfold radius_in in ap (radius_in radius) k))

@@ -11,9 +11,9 @@ use Rattle.approximations.specs.Exp2.{polynomial_of, outside32, finite_or_zero, 
 -- ---- what passes `positive`, or 0
 
 -- ---- the approximation of 2 ^ v
-pub exp2-fits : (v : Float) → T (fits binary64 (exp2_of v))
+pub exp2_fits : (v : Float) → T (fits binary64 (exp2_of v))
 unfolding exp2_of exp2_at fits
-exp2-fits v =
+exp2_fits v =
     let n = floor_of binary64 v in
     let p = polynomial_of (v ⊖ n) in
     let w = pow2_of binary64 (to_signed 31 n) in

@@ -21,117 +21,117 @@ same_test true y f g = sym (f refl)
 same_test false true f g = g refl
 same_test false false f g = refl
 
-pub either-says : (x y : Bool) → (x || y) ≡ true → (x ≡ true) ⊎ (y ≡ true)
-either-says true y h = inl refl
-either-says false y h = inr h
+pub either_says : (x y : Bool) → (x || y) ≡ true → (x ≡ true) ⊎ (y ≡ true)
+either_says true y h = inl refl
+either_says false y h = inr h
 
 pub either_left : (x y : Bool) → x ≡ true → (x || y) ≡ true
 either_left true y h = refl
 either_left false true h = refl
 either_left false false h = h
 
-pub either-right : (x y : Bool) → y ≡ true → (x || y) ≡ true
-either-right true y h = refl
-either-right false y h = h
+pub either_right : (x y : Bool) → y ≡ true → (x || y) ≡ true
+either_right true y h = refl
+either_right false y h = h
 
-both-says : (x y : Bool) → (x && y) ≡ true → (x ≡ true) × (y ≡ true)
-both-says true y h = (refl, h)
-both-says false true h = (h, refl)
-both-says false false h = (h, h)
+both_says : (x y : Bool) → (x && y) ≡ true → (x ≡ true) × (y ≡ true)
+both_says true y h = (refl, h)
+both_says false true h = (h, refl)
+both_says false false h = (h, h)
 
-pub within-says : (a b i : ℕ) → within a b i ≡ true → (a ≤ i) × (i < b)
-within-says a b i h = let p = both-says (leb a i) (ltb i b) h in (leb-true a i p.0, ltb-true i b p.1)
+pub within_says : (a b i : ℕ) → within a b i ≡ true → (a ≤ i) × (i < b)
+within_says a b i h = let p = both_says (leb a i) (ltb i b) h in (leb-true a i p.0, ltb-true i b p.1)
 
-pub within-holds : (a b i : ℕ) → a ≤ i → i < b → within a b i ≡ true
-within-holds a b i h k = rw (le-leb a i h, lt-ltb i b k)
+pub within_holds : (a b i : ℕ) → a ≤ i → i < b → within a b i ≡ true
+within_holds a b i h k = rw (le-leb a i h, lt-ltb i b k)
 
-pub within-fails : (a b i : ℕ) → (a ≤ i → i < b → ⊥) → within a b i ≡ false
-within-fails a b i h =
-    same_test (within a b i) false (λ w. absurd (h (within-says a b i w).0 (within-says a b i w).1)) (λ w. absurd (true≢false (sym w)))
+pub within_fails : (a b i : ℕ) → (a ≤ i → i < b → ⊥) → within a b i ≡ false
+within_fails a b i h =
+    same_test (within a b i) false (λ w. absurd (h (within_says a b i w).0 (within_says a b i w).1)) (λ w. absurd (true≢false (sym w)))
 
 -- two ranges that meet
-pub within-join : (a b c i : ℕ) → a ≤ b → b ≤ c → either (within a b) (within b c) i ≡ within a c i
-within-join a b c i h k =
+pub within_join : (a b c i : ℕ) → a ≤ b → b ≤ c → either (within a b) (within b c) i ≡ within a c i
+within_join a b c i h k =
     same_test (either (within a b) (within b c) i) (within a c i)
     (λ w.
-    ⊎_elim (λ u. let p = within-says a b i u in within-holds a c i (omega arith) (omega arith)) (λ u. let p = within-says b c i u in within-holds a c i (omega arith) (omega arith))
-    (either-says (within a b i) (within b c i) w))
-    (λ w. let p = within-says a c i w in part (ltb i b) refl p)
+    ⊎_elim (λ u. let p = within_says a b i u in within_holds a c i (omega arith) (omega arith)) (λ u. let p = within_says b c i u in within_holds a c i (omega arith) (omega arith))
+    (either_says (within a b i) (within b c i) w))
+    (λ w. let p = within_says a c i w in part (ltb i b) refl p)
   where
     part : (t : Bool) → ltb i b ≡ t → (a ≤ i) × (i < c) → either (within a b) (within b c) i ≡ true
-    part true e p = either_left (within a b i) (within b c i) (within-holds a b i p.0 (ltb-true i b e))
-    part false e p = either-right (within a b i) (within b c i) (within-holds b c i (ltb-false i b e) p.1)
+    part true e p = either_left (within a b i) (within b c i) (within_holds a b i p.0 (ltb-true i b e))
+    part false e p = either_right (within a b i) (within b c i) (within_holds b c i (ltb-false i b e) p.1)
 
 -- ---- length and elements
-from-length : (i : ℕ) (W : ℕ → Bool) (F : ℕ → Float) (xs : List Float) → length (patched_from i W F xs) ≡ length xs
+from_length : (i : ℕ) (W : ℕ → Bool) (F : ℕ → Float) (xs : List Float) → length (patched_from i W F xs) ≡ length xs
 unfolding patched_from
-from-length i W F [] = refl
-from-length i W F (x ∷ xs) = ap suc (from-length (i + 1) W F xs)
+from_length i W F [] = refl
+from_length i W F (x ∷ xs) = ap suc (from_length (i + 1) W F xs)
 
-from-get_or : (i : ℕ) (W : ℕ → Bool) (F : ℕ → Float) (xs : List Float) (j : ℕ) (d : Float) → j < length xs → get_or (patched_from i W F xs) j d ≡ cond (W (i + j)) (F (i + j)) (get_or xs j d)
+from_get_or : (i : ℕ) (W : ℕ → Bool) (F : ℕ → Float) (xs : List Float) (j : ℕ) (d : Float) → j < length xs → get_or (patched_from i W F xs) j d ≡ cond (W (i + j)) (F (i + j)) (get_or xs j d)
 unfolding patched_from
-from-get_or i W F [] j d h = absurd (not-suc-le-zero h)
-from-get_or i W F (x ∷ xs) zero d h = rw add-zero
-from-get_or i W F (x ∷ xs) (suc j) d h =
+from_get_or i W F [] j d h = absurd (not-suc-le-zero h)
+from_get_or i W F (x ∷ xs) zero d h = rw add-zero
+from_get_or i W F (x ∷ xs) (suc j) d h =
     let e : i + 1 + j ≡ i + suc j = omega arith in
-    rw (← e) (from-get_or (i + 1) W F xs j d (le_of_suc-le-suc h))
+    rw (← e) (from_get_or (i + 1) W F xs j d (le_of_suc-le-suc h))
 
-pub patched-length : (W : ℕ → Bool) (F : ℕ → Float) (xs : List Float) → length (patched W F xs) ≡ length xs
+pub patched_length : (W : ℕ → Bool) (F : ℕ → Float) (xs : List Float) → length (patched W F xs) ≡ length xs
 unfolding patched
-patched-length W F xs = from-length 0 W F xs
+patched_length W F xs = from_length 0 W F xs
 
-pub get_or-patched : (W : ℕ → Bool) (F : ℕ → Float) (xs : List Float) (i : ℕ) (d : Float) → i < length xs → get_or (patched W F xs) i d ≡ cond (W i) (F i) (get_or xs i d)
+pub get_or_patched : (W : ℕ → Bool) (F : ℕ → Float) (xs : List Float) (i : ℕ) (d : Float) → i < length xs → get_or (patched W F xs) i d ≡ cond (W i) (F i) (get_or xs i d)
 unfolding patched
-get_or-patched W F xs i d h = rw zero-add at (from-get_or 0 W F xs i d h)
+get_or_patched W F xs i d h = rw zero-add at (from_get_or 0 W F xs i d h)
 
 -- what W names is F
-pub get_or-written : (W : ℕ → Bool) (F : ℕ → Float) (xs : List Float) (i : ℕ) (d : Float) → i < length xs → W i ≡ true → get_or (patched W F xs) i d ≡ F i
-get_or-written W F xs i d h e = rw e at (get_or-patched W F xs i d h)
+pub get_or_written : (W : ℕ → Bool) (F : ℕ → Float) (xs : List Float) (i : ℕ) (d : Float) → i < length xs → W i ≡ true → get_or (patched W F xs) i d ≡ F i
+get_or_written W F xs i d h e = rw e at (get_or_patched W F xs i d h)
 
 -- a list is a patched list where it has its length and its elements
-pub is-patched : (W : ℕ → Bool) (F : ℕ → Float) (xs ys : List Float) → length ys ≡ length xs → ((i : ℕ) → i < length xs → get_or ys i nan ≡ cond (W i) (F i) (get_or xs i nan)) → ys ≡ patched W F xs
-is-patched W F xs ys l h =
-    ext_get_or nan ys (patched W F xs) (l ∙ sym (patched-length W F xs))
-    (λ (i : ℕ) (k : i < length ys). let k' : i < length xs = omega arith in h i k' ∙ sym (get_or-patched W F xs i nan k'))
+pub is_patched : (W : ℕ → Bool) (F : ℕ → Float) (xs ys : List Float) → length ys ≡ length xs → ((i : ℕ) → i < length xs → get_or ys i nan ≡ cond (W i) (F i) (get_or xs i nan)) → ys ≡ patched W F xs
+is_patched W F xs ys l h =
+    ext_get_or nan ys (patched W F xs) (l ∙ sym (patched_length W F xs))
+    (λ (i : ℕ) (k : i < length ys). let k' : i < length xs = omega arith in h i k' ∙ sym (get_or_patched W F xs i nan k'))
 
 -- nothing is written where W is false everywhere
-pub patched-none : (W : ℕ → Bool) (F : ℕ → Float) (xs : List Float) → ((i : ℕ) → i < length xs → W i ≡ false) → patched W F xs ≡ xs
-patched-none W F xs h = sym (is-patched W F xs xs refl (λ (i : ℕ) (k : i < length xs). rw (h i k)))
+pub patched_none : (W : ℕ → Bool) (F : ℕ → Float) (xs : List Float) → ((i : ℕ) → i < length xs → W i ≡ false) → patched W F xs ≡ xs
+patched_none W F xs h = sym (is_patched W F xs xs refl (λ (i : ℕ) (k : i < length xs). rw (h i k)))
 
 -- W and F may be exchanged for ones that agree below the length, F only where W holds
-pub patched-cong : (W U : ℕ → Bool) (F G : ℕ → Float) (xs : List Float) → ((i : ℕ) → i < length xs → W i ≡ U i) → ((i : ℕ) → i < length xs → W i ≡ true → F i ≡ G i) → patched W F xs ≡ patched U G xs
-patched-cong W U F G xs p q =
-    is-patched U G xs (patched W F xs) (patched-length W F xs)
-    (λ (i : ℕ) (k : i < length xs). get_or-patched W F xs i nan k ∙ rw (← p i k) (agree (W i) (get_or xs i nan) (q i k)))
+pub patched_cong : (W U : ℕ → Bool) (F G : ℕ → Float) (xs : List Float) → ((i : ℕ) → i < length xs → W i ≡ U i) → ((i : ℕ) → i < length xs → W i ≡ true → F i ≡ G i) → patched W F xs ≡ patched U G xs
+patched_cong W U F G xs p q =
+    is_patched U G xs (patched W F xs) (patched_length W F xs)
+    (λ (i : ℕ) (k : i < length xs). get_or_patched W F xs i nan k ∙ rw (← p i k) (agree (W i) (get_or xs i nan) (q i k)))
   where
     agree : {x y : Float} (b : Bool) (z : Float) → (b ≡ true → x ≡ y) → cond b x z ≡ cond b y z
     agree true z h = h refl
     agree false z h = refl
 
 -- W alone, and F alone, exchanged
-pub patched-where : (W U : ℕ → Bool) (F : ℕ → Float) (xs : List Float) → ((i : ℕ) → i < length xs → W i ≡ U i) → patched W F xs ≡ patched U F xs
-patched-where W U F xs h = patched-cong W U F F xs h (λ (i : ℕ) (k : i < length xs) (w : W i ≡ true). refl)
+pub patched_where : (W U : ℕ → Bool) (F : ℕ → Float) (xs : List Float) → ((i : ℕ) → i < length xs → W i ≡ U i) → patched W F xs ≡ patched U F xs
+patched_where W U F xs h = patched_cong W U F F xs h (λ (i : ℕ) (k : i < length xs) (w : W i ≡ true). refl)
 
-pub patched-as : (W : ℕ → Bool) (F G : ℕ → Float) (xs : List Float) → ((i : ℕ) → i < length xs → W i ≡ true → F i ≡ G i) → patched W F xs ≡ patched W G xs
-patched-as W F G xs h = patched-cong W W F G xs (λ (i : ℕ) (k : i < length xs). refl) h
+pub patched_as : (W : ℕ → Bool) (F G : ℕ → Float) (xs : List Float) → ((i : ℕ) → i < length xs → W i ≡ true → F i ≡ G i) → patched W F xs ≡ patched W G xs
+patched_as W F G xs h = patched_cong W W F G xs (λ (i : ℕ) (k : i < length xs). refl) h
 
 -- F is written over G
-pub patched-patched : (W U : ℕ → Bool) (F G : ℕ → Float) (xs : List Float) → patched W F (patched U G xs) ≡ patched (either W U) (λ (i : ℕ). cond (W i) (F i) (G i)) xs
-patched-patched W U F G xs =
-    is-patched (either W U) (λ (i : ℕ). cond (W i) (F i) (G i)) xs (patched W F (patched U G xs))
-    (patched-length W F (patched U G xs) ∙ patched-length U G xs)
+pub patched_patched : (W U : ℕ → Bool) (F G : ℕ → Float) (xs : List Float) → patched W F (patched U G xs) ≡ patched (either W U) (λ (i : ℕ). cond (W i) (F i) (G i)) xs
+patched_patched W U F G xs =
+    is_patched (either W U) (λ (i : ℕ). cond (W i) (F i) (G i)) xs (patched W F (patched U G xs))
+    (patched_length W F (patched U G xs) ∙ patched_length U G xs)
     (λ (i : ℕ) (k : i < length xs).
-    get_or-patched W F (patched U G xs) i nan (rw patched-length k) ∙ rw (get_or-patched U G xs i nan k) (over (W i) (U i) (F i) (G i) (get_or xs i nan)))
+    get_or_patched W F (patched U G xs) i nan (rw patched_length k) ∙ rw (get_or_patched U G xs i nan k) (over (W i) (U i) (F i) (G i) (get_or xs i nan)))
   where
     over : (b c : Bool) (x y z : Float) → cond b x (cond c y z) ≡ cond (b || c) (cond b x y) z
     over true c x y z = refl
     over false c x y z = refl
 
 -- both write one function
-pub patched-both : (W U : ℕ → Bool) (F : ℕ → Float) (xs : List Float) → patched W F (patched U F xs) ≡ patched (either U W) F xs
-patched-both W U F xs =
-    patched-patched W U F F xs
-    ∙ patched-cong (either W U) (either U W) (λ (i : ℕ). cond (W i) (F i) (F i)) F xs (λ (i : ℕ) (k : i < length xs). or_comm (W i) (U i)) (λ (i : ℕ) (k : i < length xs) (e : either W U i ≡ true). one (W i) (F i))
+pub patched_both : (W U : ℕ → Bool) (F : ℕ → Float) (xs : List Float) → patched W F (patched U F xs) ≡ patched (either U W) F xs
+patched_both W U F xs =
+    patched_patched W U F F xs
+    ∙ patched_cong (either W U) (either U W) (λ (i : ℕ). cond (W i) (F i) (F i)) F xs (λ (i : ℕ) (k : i < length xs). or_comm (W i) (U i)) (λ (i : ℕ) (k : i < length xs) (e : either W U i ≡ true). one (W i) (F i))
   where
     one : (b : Bool) (x : Float) → cond b x x ≡ x
     one true x = refl
@@ -140,33 +140,33 @@ patched-both W U F xs =
 -- ---- ranges
 pub within_none : (a : ℕ) (F : ℕ → Float) (xs : List Float) → patched (within a a) F xs ≡ xs
 within_none a F xs =
-    patched-none (within a a) F xs (λ (i : ℕ) (k : i < length xs). within-fails a a i (λ h l. omega arith))
+    patched_none (within a a) F xs (λ (i : ℕ) (k : i < length xs). within_fails a a i (λ h l. omega arith))
 
 -- a store is a range of one
 store_is : (b : ℕ) (F : ℕ → Float) (xs : List Float) → set xs b (F b) ≡ patched (within b (b + 1)) F xs
 store_is b F xs =
-    is-patched (within b (b + 1)) F xs (set xs b (F b)) (length-set xs b (F b)) (λ (i : ℕ) (k : i < length xs). at i (eqb i b) refl k)
+    is_patched (within b (b + 1)) F xs (set xs b (F b)) (length-set xs b (F b)) (λ (i : ℕ) (k : i < length xs). at i (eqb i b) refl k)
   where
     at : (i : ℕ) (t : Bool) → eqb i b ≡ t → i < length xs → get_or (set xs b (F b)) i nan ≡ cond (within b (b + 1) i) (F i) (get_or xs i nan)
     at i true e k =
         let q : i ≡ b = eqb-true i b e in
-        rw (within-holds b (b + 1) i (omega arith) (omega arith), q) (get_or-set_same xs b (F b) nan (omega arith))
+        rw (within_holds b (b + 1) i (omega arith) (omega arith), q) (get_or-set_same xs b (F b) nan (omega arith))
     at i false e k =
-        rw (within-fails b (b + 1) i (λ h l. eqb-false i b e (omega arith))) (get_or-set_other xs b i (F b) nan (eqb-false i b e))
+        rw (within_fails b (b + 1) i (λ h l. eqb-false i b e (omega arith))) (get_or-set_other xs b i (F b) nan (eqb-false i b e))
 
 -- one more store
 pub within_more : (a b : ℕ) (F : ℕ → Float) (xs : List Float) → a ≤ b → set (patched (within a b) F xs) b (F b) ≡ patched (within a (b + 1)) F xs
 within_more a b F xs l =
     store_is b F (patched (within a b) F xs)
-    ∙ patched-both (within b (b + 1)) (within a b) F xs
-    ∙ patched-where (either (within a b) (within b (b + 1))) (within a (b + 1)) F xs (λ (i : ℕ) (k : i < length xs). within-join a b (b + 1) i l (omega arith))
+    ∙ patched_both (within b (b + 1)) (within a b) F xs
+    ∙ patched_where (either (within a b) (within b (b + 1))) (within a (b + 1)) F xs (λ (i : ℕ) (k : i < length xs). within_join a b (b + 1) i l (omega arith))
 
 -- a loop that writes g 0, g 1, .. from a on: nothing yet, and one more
-pub write-none : (a : ℕ) (g : ℕ → Float) (xs : List Float) → patched (within a (a + 0)) (λ (i : ℕ). g (i - a)) xs ≡ xs
-write-none a g xs = rw add-zero (within_none a (λ (i : ℕ). g (i - a)) xs)
+pub write_none : (a : ℕ) (g : ℕ → Float) (xs : List Float) → patched (within a (a + 0)) (λ (i : ℕ). g (i - a)) xs ≡ xs
+write_none a g xs = rw add-zero (within_none a (λ (i : ℕ). g (i - a)) xs)
 
-pub write-more : (a k : ℕ) (g : ℕ → Float) (xs : List Float) → set (patched (within a (a + k)) (λ (i : ℕ). g (i - a)) xs) (a + k) (g k) ≡ patched (within a (a + (k + 1))) (λ (i : ℕ). g (i - a)) xs
-write-more a k g xs =
+pub write_more : (a k : ℕ) (g : ℕ → Float) (xs : List Float) → set (patched (within a (a + k)) (λ (i : ℕ). g (i - a)) xs) (a + k) (g k) ≡ patched (within a (a + (k + 1))) (λ (i : ℕ). g (i - a)) xs
+write_more a k g xs =
     let s : a + k + 1 ≡ a + (k + 1) = omega arith in
     let d : a + k - a ≡ k = omega arith in
     rw (s, d) at (within_more a (a + k) (λ (i : ℕ). g (i - a)) xs (omega arith))
@@ -175,4 +175,4 @@ write-more a k g xs =
 pub copy_more : (a k j : ℕ) (g : ℕ → Float) (xs : List Float) (d : Float) → j < k → a + k ≤ length xs → g j ≡ g k → set (patched (within a (a + k)) (λ (i : ℕ). g (i - a)) xs) (a + k) (get_or (patched (within a (a + k)) (λ (i : ℕ). g (i - a)) xs) (a + j) d) ≡ patched (within a (a + (k + 1))) (λ (i : ℕ). g (i - a)) xs
 copy_more a k j g xs d h l q =
     let e : a + j - a ≡ j = omega arith in
-    rw (get_or-written (within a (a + k)) (λ (i : ℕ). g (i - a)) xs (a + j) d (omega arith) (within-holds a (a + k) (a + j) (omega arith) (omega arith)), e, q) (write-more a k g xs)
+    rw (get_or_written (within a (a + k)) (λ (i : ℕ). g (i - a)) xs (a + j) d (omega arith) (within_holds a (a + k) (a + j) (omega arith) (omega arith)), e, q) (write_more a k g xs)

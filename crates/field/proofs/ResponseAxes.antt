@@ -10,7 +10,7 @@ use lib.Ieee.Scale.{finite}
 use lib.ListN.{length, get_or, take, drop, length-map, take-append-drop, get_or-map}
 use lib.Seq.{slice, slice_empty, take-take, drop-append-le, length-take-le, length-slice}
 use Rattle.lists.specs.Lists.{all_of, flatten}
-use Rattle.lists.proofs.Loops.{slice-more}
+use Rattle.lists.proofs.Loops.{slice_more}
 use Rattle.layout.specs.declared.Anchor.{Anchor}
 use Rattle.layout.specs.Topology.{TopologyRow, TopologyLayer, anchor_x}
 use Rattle.layout.specs.Steps.Starts.{no_anchor}
@@ -20,8 +20,8 @@ use Rattle.field.specs.declared.Pick.{Pick}
 use Rattle.field.specs.Responses.{Weight, weights_of, alone, row_anchors, layer_anchors, row_weights_x, layer_weights_x, layer_weights_y, weights_on, pick_of, layer_pick}
 use Rattle.field.specs.Steps.Flat.{pick_added, response_added, pick_end, Grouped}
 use Rattle.field.proofs.ResponseRows.{weights_added, named}
-use Rattle.field.proofs.ResponseSpread.{placed, active_anchor, slice-active, map-slice, gathered, gathered-same, gathered-concat, groups-added, groups-named, pick-added, pick-named}
-use Rattle.field.proofs.response.Picks.{get_or-slice, moved_none}
+use Rattle.field.proofs.ResponseSpread.{placed, active_anchor, slice_active, map_slice, gathered, gathered_same, gathered_concat, groups_added, groups_named, pick_added_lem, pick_named}
+use Rattle.field.proofs.response.Picks.{get_or_slice, moved_none}
 
 -- ---- lists
 module _ {A : Type 0} where
@@ -31,30 +31,30 @@ module _ {A : Type 0} where
   get_d_any (x ∷ xs) (suc i) d e h = get_d_any xs i d e (omega arith)
 
   -- one of a list
-  slice-one : (xs : List A) (i : ℕ) (d : A) → i < length xs → slice i (i + 1) xs ≡ get_or xs i d ∷ []
-  slice-one xs i d h = slice-more i (i + 1) xs d (omega arith) (omega arith) ∙ ap (λ (r : List A). get_or xs i d ∷ r) (slice_empty (i + 1) xs)
+  slice_one : (xs : List A) (i : ℕ) (d : A) → i < length xs → slice i (i + 1) xs ≡ get_or xs i d ∷ []
+  slice_one xs i d h = slice_more i (i + 1) xs d (omega arith) (omega arith) ∙ ap (λ (r : List A). get_or xs i d ∷ r) (slice_empty (i + 1) xs)
 
   -- two parts side by side
-  slice-join : (a b c : ℕ) (xs : List A) → a ≤ b → b ≤ c → b ≤ length xs → slice a b xs ++ slice b c xs ≡ slice a c xs
-  slice-join a b c xs h k l =
+  slice_join : (a b c : ℕ) (xs : List A) → a ≤ b → b ≤ c → b ≤ length xs → slice a b xs ++ slice b c xs ≡ slice a c xs
+  slice_join a b c xs h k l =
       sym (ap (drop a) (sym (take-append-drop b (take c xs)) ∙ ap (λ (p : List A). p ++ slice b c xs) (take-take b c xs k))
       ∙ drop-append-le a (take b xs) (slice b c xs) (rw (length-take-le b xs l) h))
 
   -- a part of the first n
-  pub slice-take : (a b n : ℕ) (xs : List A) → b ≤ n → slice a b (take n xs) ≡ slice a b xs
-  slice-take a b n xs h = ap (drop a) (take-take b n xs h)
+  pub slice_take : (a b n : ℕ) (xs : List A) → b ≤ n → slice a b (take n xs) ≡ slice a b xs
+  slice_take a b n xs h = ap (drop a) (take-take b n xs h)
 
-  concat-append : (xss yss : List (List A)) → flatten (xss ++ yss) ≡ flatten xss ++ flatten yss
-  concat-append [] yss = refl
-  concat-append (xs ∷ xss) yss = ap (λ (r : List A). xs ++ r) (concat-append xss yss) ∙ sym (append_assoc xs (flatten xss) (flatten yss))
+  concat_append : (xss yss : List (List A)) → flatten (xss ++ yss) ≡ flatten xss ++ flatten yss
+  concat_append [] yss = refl
+  concat_append (xs ∷ xss) yss = ap (λ (r : List A). xs ++ r) (concat_append xss yss) ∙ sym (append_assoc xs (flatten xss) (flatten yss))
 
 map-append : {A B : Type 0} (f : A → B) (xs ys : List A) → map f (xs ++ ys) ≡ map f xs ++ map f ys
 map-append f [] ys = refl
 map-append {B = B} f (x ∷ xs) ys = ap (λ (r : List B). f x ∷ r) (map-append f xs ys)
 
 -- the i-th of a list that a function made
-pub get_or-mapped : {A B : Type 0} (f : A → B) (xs : List A) (i : ℕ) (d : A) (e : B) → i < length xs → get_or (map f xs) i e ≡ f (get_or xs i d)
-get_or-mapped f xs i d e h = get_d_any (map f xs) i e (f d) (rw (length-map xs f) h) ∙ get_or-map f xs i d
+pub get_or_mapped : {A B : Type 0} (f : A → B) (xs : List A) (i : ℕ) (d : A) (e : B) → i < length xs → get_or (map f xs) i e ≡ f (get_or xs i d)
+get_or_mapped f xs i d e h = get_d_any (map f xs) i e (f d) (rw (length-map xs f) h) ∙ get_or-map f xs i d
 
 -- ---- a topology and flat lists that say the same
 abbrev pub layer_rows : TopologyLayer → List TopologyRow
@@ -87,15 +87,15 @@ rising f n h r (suc d) l =
     let e : r + d + 1 ≡ r + suc d = omega arith in
     le_trans (rising f n h r d (omega arith)) (rw e at (h (r + d) (omega arith)))
 
-pub rising-to : (xs : List ℕ) (n : ℕ) → ((r : ℕ) → r < n → get_or xs r 0 ≤ get_or xs (r + 1) 0) → (r s : ℕ) → r ≤ s → s ≤ n → get_or xs r 0 ≤ get_or xs s 0
-rising-to xs n h r s k l = let e : r + (s - r) ≡ s = omega arith in rw e at (rising (λ (i : ℕ). get_or xs i 0) n h r (s - r) (omega arith))
+pub rising_to_lem : (xs : List ℕ) (n : ℕ) → ((r : ℕ) → r < n → get_or xs r 0 ≤ get_or xs (r + 1) 0) → (r s : ℕ) → r ≤ s → s ≤ n → get_or xs r 0 ≤ get_or xs s 0
+rising_to_lem xs n h r s k l = let e : r + (s - r) ≡ s = omega arith in rw e at (rising (λ (i : ℕ). get_or xs i 0) n h r (s - r) (omega arith))
 
-rows-x : (u : Float) (t : List TopologyLayer) → weights_on X t u ≡ flatten (map (row_weights_x u) (rows_in t))
+rows_x : (u : Float) (t : List TopologyLayer) → weights_on X t u ≡ flatten (map (row_weights_x u) (rows_in t))
 unfolding weights_on layer_weights_x
-rows-x u [] = refl
-rows-x u (l ∷ t) =
-    ap (λ (r : List Weight). flatten (map (row_weights_x u) l.rows) ++ r) (rows-x u t)
-    ∙ sym (ap flatten (map-append (row_weights_x u) l.rows (rows_in t)) ∙ concat-append (map (row_weights_x u) l.rows) (map (row_weights_x u) (rows_in t)))
+rows_x u [] = refl
+rows_x u (l ∷ t) =
+    ap (λ (r : List Weight). flatten (map (row_weights_x u) l.rows) ++ r) (rows_x u t)
+    ∙ sym (ap flatten (map-append (row_weights_x u) l.rows (rows_in t)) ∙ concat_append (map (row_weights_x u) l.rows) (map (row_weights_x u) (rows_in t)))
 
 module _
     (names : List ℕ)
@@ -106,107 +106,107 @@ module _
     (flat : Flat names t anchors starts row_starts ys)
   where
     -- the start of a row is at most the end of all
-    pub start-end : (r s : ℕ) → r ≤ s → s ≤ length (rows_in t) → get_or starts r 0 ≤ get_or starts s 0
-    start-end r s h k = rising-to starts (length (rows_in t)) flat.rise r s h k
+    pub start_end : (r s : ℕ) → r ≤ s → s ≤ length (rows_in t) → get_or starts r 0 ≤ get_or starts s 0
+    start_end r s h k = rising_to_lem starts (length (rows_in t)) flat.rise r s h k
 
-    pub row-start-end : (i j : ℕ) → i ≤ j → j ≤ length t → get_or row_starts i 0 ≤ get_or row_starts j 0
-    row-start-end i j h k = rising-to row_starts (length t) flat.rows_rise i j h k
+    pub row_start_end : (i j : ℕ) → i ≤ j → j ≤ length t → get_or row_starts i 0 ≤ get_or row_starts j 0
+    row_start_end i j h k = rising_to_lem row_starts (length t) flat.rows_rise i j h k
 
-    active-part : (a b : ℕ) → b ≤ get_or starts (length (rows_in t)) 0 → T (all_of (active_anchor names) (slice a b anchors))
-    active-part a b h = slice-active names anchors (get_or starts (length (rows_in t)) 0) a b flat.within flat.actives h
+    active_part : (a b : ℕ) → b ≤ get_or starts (length (rows_in t)) 0 → T (all_of (active_anchor names) (slice a b anchors))
+    active_part a b h = slice_active names anchors (get_or starts (length (rows_in t)) 0) a b flat.within flat.actives h
 
     -- ---- X: the rows are the groups, and each anchor is a part of its own
     module _ (ones : List ℕ) (single : (i : ℕ) → i ≤ length anchors → get_or ones i 0 ≡ i) (k : Grouped (map anchor_x anchors) starts (length (rows_in t))) where
-      parts-x : ℕ → List (List Anchor)
-      parts-x g = map alone (get_or (rows_in t) g no_topology_row).anchors
+      parts_x : ℕ → List (List Anchor)
+      parts_x g = map alone (get_or (rows_in t) g no_topology_row).anchors
 
-      are-x : (g : ℕ) → g < length (rows_in t) → (i : ℕ) → i < get_or starts (g + 1) 0 - get_or starts g 0 →
-          get_or (parts-x g) i [] ≡ slice (get_or ones (get_or starts g 0 + i) 0) (get_or ones (get_or starts g 0 + i + 1) 0) anchors
-      unfolding parts-x
-      are-x g h i l =
+      are_x : (g : ℕ) → g < length (rows_in t) → (i : ℕ) → i < get_or starts (g + 1) 0 - get_or starts g 0 →
+          get_or (parts_x g) i [] ≡ slice (get_or ones (get_or starts g 0 + i) 0) (get_or ones (get_or starts g 0 + i + 1) 0) anchors
+      unfolding parts_x
+      are_x g h i l =
           let a = get_or starts g 0 in
           let b = get_or starts (g + 1) 0 in
-          let within = le_trans (start-end (g + 1) (length (rows_in t)) (omega arith) (omega arith)) flat.within in
+          let within = le_trans (start_end (g + 1) (length (rows_in t)) (omega arith) (omega arith)) flat.within in
           let size = length-slice a b anchors within in
-          rw (single (a + i) (omega arith), single (a + i + 1) (omega arith), slice-one anchors (a + i) no_anchor (omega arith), flat.row_cut g h)
-          (get_or-mapped alone (slice a b anchors) i no_anchor [] (omega arith) ∙ ap alone (get_or-slice a b anchors i no_anchor (omega arith)))
+          rw (single (a + i) (omega arith), single (a + i + 1) (omega arith), slice_one anchors (a + i) no_anchor (omega arith), flat.row_cut g h)
+          (get_or_mapped alone (slice a b anchors) i no_anchor [] (omega arith) ∙ ap alone (get_or_slice a b anchors i no_anchor (omega arith)))
 
-      row-weights : (u : Float) (g : ℕ) → g < length (rows_in t) →
-          weights_of (pick_of (slice (get_or starts g 0) (get_or starts (g + 1) 0) (map anchor_x anchors)) u) (parts-x g) ≡ row_weights_x u (get_or (rows_in t) g no_topology_row)
-      unfolding parts-x row_weights_x
-      row-weights u g h =
+      row_weights : (u : Float) (g : ℕ) → g < length (rows_in t) →
+          weights_of (pick_of (slice (get_or starts g 0) (get_or starts (g + 1) 0) (map anchor_x anchors)) u) (parts_x g) ≡ row_weights_x u (get_or (rows_in t) g no_topology_row)
+      unfolding parts_x row_weights_x
+      row_weights u g h =
           let e : slice (get_or starts g 0) (get_or starts (g + 1) 0) (map anchor_x anchors) ≡ map anchor_x (get_or (rows_in t) g no_topology_row).anchors =
-          map-slice anchor_x (get_or starts g 0) (get_or starts (g + 1) 0) anchors ∙ ap (map anchor_x) (sym (flat.row_cut g h)) in
+          map_slice anchor_x (get_or starts g 0) (get_or starts (g + 1) 0) anchors ∙ ap (map anchor_x) (sym (flat.row_cut g h)) in
           ap (λ (xs : List Float). weights_of (pick_of xs u) (map alone (get_or (rows_in t) g no_topology_row).anchors)) e
 
       module _ (u : Float) (f : T (finite u)) where
-        all-x : gathered (λ (g : ℕ). weights_of (pick_of (slice (get_or starts g 0) (get_or starts (g + 1) 0) (map anchor_x anchors)) u) (parts-x g)) (length (rows_in t)) ≡ weights_on X t u
-        all-x = gathered-same _ (λ (g : ℕ). row_weights_x u (get_or (rows_in t) g no_topology_row)) (length (rows_in t)) (row-weights u) ∙ sym (rows-x u t ∙ gathered-concat (row_weights_x u) (rows_in t) no_topology_row)
+        all_x : gathered (λ (g : ℕ). weights_of (pick_of (slice (get_or starts g 0) (get_or starts (g + 1) 0) (map anchor_x anchors)) u) (parts_x g)) (length (rows_in t)) ≡ weights_on X t u
+        all_x = gathered_same _ (λ (g : ℕ). row_weights_x u (get_or (rows_in t) g no_topology_row)) (length (rows_in t)) (row_weights u) ∙ sym (rows_x u t ∙ gathered_concat (row_weights_x u) (rows_in t) no_topology_row)
 
-        pub added-x : (base : ℕ) (out : List Float) →
+        pub added_x : (base : ℕ) (out : List Float) →
             response_added base (map (placed names) anchors) ones (map anchor_x anchors) starts (length (rows_in t)) u out ≡ weights_added base names (weights_on X t u) out
-        added-x base out =
-            groups-added names anchors ones (map anchor_x anchors) starts (length (rows_in t)) k parts-x are-x u f base (length (rows_in t)) out (le_refl (length (rows_in t)))
-            ∙ ap (λ (ws : List Weight). weights_added base names ws out) all-x
+        added_x base out =
+            groups_added names anchors ones (map anchor_x anchors) starts (length (rows_in t)) k parts_x are_x u f base (length (rows_in t)) out (le_refl (length (rows_in t)))
+            ∙ ap (λ (ws : List Weight). weights_added base names ws out) all_x
 
-        pub named-x : T (all_of (named names) (weights_on X t u))
-        named-x =
-            rw (← all-x)
-            (groups-named names anchors ones (map anchor_x anchors) starts (length (rows_in t)) k parts-x are-x u f
+        pub named_x : T (all_of (named names) (weights_on X t u))
+        named_x =
+            rw (← all_x)
+            (groups_named names anchors ones (map anchor_x anchors) starts (length (rows_in t)) k parts_x are_x u f
             (λ g h i l.
             let a = get_or starts g 0 in
-            let e = start-end (g + 1) (length (rows_in t)) (omega arith) (omega arith) in
+            let e = start_end (g + 1) (length (rows_in t)) (omega arith) (omega arith) in
             let w = flat.within in
-            rw (single (a + i) (omega arith), single (a + i + 1) (omega arith)) (active-part (a + i) (a + i + 1) (omega arith))))
+            rw (single (a + i) (omega arith), single (a + i + 1) (omega arith)) (active_part (a + i) (a + i + 1) (omega arith))))
 
     -- ---- Y: the layers are the groups, and each row is a part
     module _ (k : Grouped ys row_starts (length t)) where
-      parts-y : ℕ → List (List Anchor)
-      parts-y g = map row_anchors (get_or t g no_topology_layer).rows
+      parts_y : ℕ → List (List Anchor)
+      parts_y g = map row_anchors (get_or t g no_topology_layer).rows
 
       row_within : (g : ℕ) → g < length t → get_or row_starts (g + 1) 0 ≤ length (rows_in t)
-      row_within g h = le_trans (row-start-end (g + 1) (length t) (omega arith) (omega arith)) flat.rows_within
+      row_within g h = le_trans (row_start_end (g + 1) (length t) (omega arith) (omega arith)) flat.rows_within
 
-      are-y : (g : ℕ) → g < length t → (i : ℕ) → i < get_or row_starts (g + 1) 0 - get_or row_starts g 0 →
-          get_or (parts-y g) i [] ≡ slice (get_or starts (get_or row_starts g 0 + i) 0) (get_or starts (get_or row_starts g 0 + i + 1) 0) anchors
-      unfolding parts-y
-      are-y g h i l =
+      are_y : (g : ℕ) → g < length t → (i : ℕ) → i < get_or row_starts (g + 1) 0 - get_or row_starts g 0 →
+          get_or (parts_y g) i [] ≡ slice (get_or starts (get_or row_starts g 0 + i) 0) (get_or starts (get_or row_starts g 0 + i + 1) 0) anchors
+      unfolding parts_y
+      are_y g h i l =
           let a = get_or row_starts g 0 in
           let b = get_or row_starts (g + 1) 0 in
           let within = row_within g h in
           let size = length-slice a b (rows_in t) within in
           rw (flat.layer_cut g h)
-          (get_or-mapped row_anchors (slice a b (rows_in t)) i no_topology_row [] (omega arith)
-          ∙ ap row_anchors (get_or-slice a b (rows_in t) i no_topology_row (omega arith))
+          (get_or_mapped row_anchors (slice a b (rows_in t)) i no_topology_row [] (omega arith)
+          ∙ ap row_anchors (get_or_slice a b (rows_in t) i no_topology_row (omega arith))
           ∙ flat.row_cut (a + i) (omega arith))
 
-      layer-weights : (u : Float) (g : ℕ) → g < length t →
-          weights_of (pick_of (slice (get_or row_starts g 0) (get_or row_starts (g + 1) 0) ys) u) (parts-y g) ≡ layer_weights_y u (get_or t g no_topology_layer)
-      unfolding parts-y layer_weights_y
-      layer-weights u g h =
+      layer_weights : (u : Float) (g : ℕ) → g < length t →
+          weights_of (pick_of (slice (get_or row_starts g 0) (get_or row_starts (g + 1) 0) ys) u) (parts_y g) ≡ layer_weights_y u (get_or t g no_topology_layer)
+      unfolding parts_y layer_weights_y
+      layer_weights u g h =
           let a = get_or row_starts g 0 in
           let b = get_or row_starts (g + 1) 0 in
           let e : slice a b ys ≡ map topology_y (get_or t g no_topology_layer).rows =
-          sym (slice-take a b (length (rows_in t)) ys (row_within g h)) ∙ ap (slice a b) (sym flat.y_cut) ∙ map-slice topology_y a b (rows_in t) ∙ ap (map topology_y) (sym (flat.layer_cut g h)) in
+          sym (slice_take a b (length (rows_in t)) ys (row_within g h)) ∙ ap (slice a b) (sym flat.y_cut) ∙ map_slice topology_y a b (rows_in t) ∙ ap (map topology_y) (sym (flat.layer_cut g h)) in
           ap (λ (xs : List Float). weights_of (pick_of xs u) (map row_anchors (get_or t g no_topology_layer).rows)) e
 
       module _ (u : Float) (f : T (finite u)) where
-        all-y : gathered (λ (g : ℕ). weights_of (pick_of (slice (get_or row_starts g 0) (get_or row_starts (g + 1) 0) ys) u) (parts-y g)) (length t) ≡ weights_on Y t u
+        all_y : gathered (λ (g : ℕ). weights_of (pick_of (slice (get_or row_starts g 0) (get_or row_starts (g + 1) 0) ys) u) (parts_y g)) (length t) ≡ weights_on Y t u
         unfolding weights_on
-        all-y = gathered-same _ (λ (g : ℕ). layer_weights_y u (get_or t g no_topology_layer)) (length t) (layer-weights u) ∙ sym (gathered-concat (layer_weights_y u) t no_topology_layer)
+        all_y = gathered_same _ (λ (g : ℕ). layer_weights_y u (get_or t g no_topology_layer)) (length t) (layer_weights u) ∙ sym (gathered_concat (layer_weights_y u) t no_topology_layer)
 
-        pub added-y : (base : ℕ) (out : List Float) → response_added base (map (placed names) anchors) starts ys row_starts (length t) u out ≡ weights_added base names (weights_on Y t u) out
-        added-y base out =
-            groups-added names anchors starts ys row_starts (length t) k parts-y are-y u f base (length t) out (le_refl (length t)) ∙ ap (λ (ws : List Weight). weights_added base names ws out) all-y
+        pub added_y : (base : ℕ) (out : List Float) → response_added base (map (placed names) anchors) starts ys row_starts (length t) u out ≡ weights_added base names (weights_on Y t u) out
+        added_y base out =
+            groups_added names anchors starts ys row_starts (length t) k parts_y are_y u f base (length t) out (le_refl (length t)) ∙ ap (λ (ws : List Weight). weights_added base names ws out) all_y
 
-        pub named-y : T (all_of (named names) (weights_on Y t u))
-        named-y =
-            rw (← all-y)
-            (groups-named names anchors starts ys row_starts (length t) k parts-y are-y u f
+        pub named_y : T (all_of (named names) (weights_on Y t u))
+        named_y =
+            rw (← all_y)
+            (groups_named names anchors starts ys row_starts (length t) k parts_y are_y u f
             (λ g h i l.
             let a = get_or row_starts g 0 in
             let w = row_within g h in
-            active-part (get_or starts (a + i) 0) (get_or starts (a + i + 1) 0) (start-end (a + i + 1) (length (rows_in t)) (omega arith) (le_refl (length (rows_in t))))))
+            active_part (get_or starts (a + i) 0) (get_or starts (a + i + 1) 0) (start_end (a + i + 1) (length (rows_in t)) (omega arith) (le_refl (length (rows_in t))))))
 
     -- ---- Z: each layer is a part
     module _
@@ -218,40 +218,40 @@ module _
         (starts-are : (i : ℕ) → i ≤ length t → get_or layer_starts i 0 ≡ get_or starts (get_or row_starts i 0) 0)
       where
         -- the anchors of the rows from a up to b
-        rows-anchors : (n a b : ℕ) → a + n ≡ b → b ≤ length (rows_in t) → flatten (map row_anchors (slice a b (rows_in t))) ≡ slice (get_or starts a 0) (get_or starts b 0) anchors
-        rows-anchors zero a b e h =
+        rows_anchors : (n a b : ℕ) → a + n ≡ b → b ≤ length (rows_in t) → flatten (map row_anchors (slice a b (rows_in t))) ≡ slice (get_or starts a 0) (get_or starts b 0) anchors
+        rows_anchors zero a b e h =
             let q : a ≡ b = omega arith in
             rw (q, slice_empty b (rows_in t), slice_empty (get_or starts b 0) anchors)
-        rows-anchors (suc n) a b e h =
-            ap (λ (rs : List TopologyRow). flatten (map row_anchors rs)) (slice-more a b (rows_in t) no_topology_row (omega arith) h)
-            ∙ ap₂ (λ (x y : List Anchor). x ++ y) (flat.row_cut a (omega arith)) (rows-anchors n (a + 1) b (omega arith) h)
-            ∙ slice-join (get_or starts a 0) (get_or starts (a + 1) 0) (get_or starts b 0) anchors (flat.rise a (omega arith)) (start-end (a + 1) b (omega arith) h)
-            (le_trans (start-end (a + 1) (length (rows_in t)) (omega arith) (le_refl (length (rows_in t)))) flat.within)
+        rows_anchors (suc n) a b e h =
+            ap (λ (rs : List TopologyRow). flatten (map row_anchors rs)) (slice_more a b (rows_in t) no_topology_row (omega arith) h)
+            ∙ ap₂ (λ (x y : List Anchor). x ++ y) (flat.row_cut a (omega arith)) (rows_anchors n (a + 1) b (omega arith) h)
+            ∙ slice_join (get_or starts a 0) (get_or starts (a + 1) 0) (get_or starts b 0) anchors (flat.rise a (omega arith)) (start_end (a + 1) b (omega arith) h)
+            (le_trans (start_end (a + 1) (length (rows_in t)) (omega arith) (le_refl (length (rows_in t)))) flat.within)
 
-        are-z : (i : ℕ) → i < depth → get_or (map layer_anchors t) i [] ≡ slice (get_or layer_starts (0 + i) 0) (get_or layer_starts (0 + i + 1) 0) anchors
-        are-z i h =
+        are_z : (i : ℕ) → i < depth → get_or (map layer_anchors t) i [] ≡ slice (get_or layer_starts (0 + i) 0) (get_or layer_starts (0 + i + 1) 0) anchors
+        are_z i h =
             let a = get_or row_starts i 0 in
             let b = get_or row_starts (i + 1) 0 in
             let l : i < length t = omega arith in
             let rise = flat.rows_rise i l in
             rw (zero-add i, starts-are i (omega arith), starts-are (i + 1) (omega arith))
-            (get_or-mapped layer_anchors t i no_topology_layer [] l
+            (get_or_mapped layer_anchors t i no_topology_layer [] l
             ∙ ap (λ (rs : List TopologyRow). flatten (map row_anchors rs)) (flat.layer_cut i l)
-            ∙ rows-anchors (b - a) a b (omega arith) (le_trans (row-start-end (i + 1) (length t) (omega arith) (le_refl (length t))) flat.rows_within))
+            ∙ rows_anchors (b - a) a b (omega arith) (le_trans (row_start_end (i + 1) (length t) (omega arith) (le_refl (length t))) flat.rows_within))
 
-        active-z : (i : ℕ) → i < depth → T (all_of (active_anchor names) (slice (get_or layer_starts (0 + i) 0) (get_or layer_starts (0 + i + 1) 0) anchors))
-        active-z i h =
+        active_z : (i : ℕ) → i < depth → T (all_of (active_anchor names) (slice (get_or layer_starts (0 + i) 0) (get_or layer_starts (0 + i + 1) 0) anchors))
+        active_z i h =
             rw (zero-add i, starts-are i (omega arith), starts-are (i + 1) (omega arith))
-            (active-part (get_or starts (get_or row_starts i 0) 0) (get_or starts (get_or row_starts (i + 1) 0) 0)
-            (start-end (get_or row_starts (i + 1) 0) (length (rows_in t)) (le_trans (row-start-end (i + 1) (length t) (omega arith) (le_refl (length t))) flat.rows_within) (le_refl (length (rows_in t)))))
+            (active_part (get_or starts (get_or row_starts i 0) 0) (get_or starts (get_or row_starts (i + 1) 0) 0)
+            (start_end (get_or row_starts (i + 1) 0) (length (rows_in t)) (le_trans (row_start_end (i + 1) (length t) (omega arith) (le_refl (length t))) flat.rows_within) (le_refl (length (rows_in t)))))
 
-        pub added-z : (base : ℕ) (u : Float) (out : List Float) → pick_end (layer_pick (take depth zs) u) ≤ depth → pick_added base (map (placed names) anchors) layer_starts (layer_pick (take depth zs) u) out ≡ weights_added base names (weights_on Z t u) out
+        pub added_z : (base : ℕ) (u : Float) (out : List Float) → pick_end (layer_pick (take depth zs) u) ≤ depth → pick_added base (map (placed names) anchors) layer_starts (layer_pick (take depth zs) u) out ≡ weights_added base names (weights_on Z t u) out
         unfolding weights_on
-        added-z base u out h =
+        added_z base u out h =
             ap (λ (p : Pick). pick_added base (map (placed names) anchors) layer_starts p out) (sym (moved_none (layer_pick (take depth zs) u)))
-            ∙ pick-added names anchors layer_starts 0 depth (map layer_anchors t) are-z base (layer_pick (take depth zs) u) out h
+            ∙ pick_added_lem names anchors layer_starts 0 depth (map layer_anchors t) are_z base (layer_pick (take depth zs) u) out h
             ∙ rw (← zCut)
 
-        pub named-z : (u : Float) → pick_end (layer_pick (take depth zs) u) ≤ depth → T (all_of (named names) (weights_on Z t u))
+        pub named_z : (u : Float) → pick_end (layer_pick (take depth zs) u) ≤ depth → T (all_of (named names) (weights_on Z t u))
         unfolding weights_on
-        named-z u h = rw zCut (pick-named names anchors layer_starts 0 depth (map layer_anchors t) are-z (layer_pick (take depth zs) u) h active-z)
+        named_z u h = rw zCut (pick_named names anchors layer_starts 0 depth (map layer_anchors t) are_z (layer_pick (take depth zs) u) h active_z)

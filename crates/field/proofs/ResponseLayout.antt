@@ -15,24 +15,24 @@ use lib.Seq.{slice, get_or-take, length-slice, length-take-le}
 use Rattle.doubles.specs.Arithmetic.{minus_one64, one64, zero64}
 use Rattle.doubles.specs.Range.{is_between}
 use Rattle.lists.specs.Lists.{all_of, filtered, elem, all_distinct, total, chain}
-use Rattle.lists.proofs.Takes.{map-take}
+use Rattle.lists.proofs.Takes.{map_take}
 use Rattle.layout.specs.declared.Layout.{Layout}
 use Rattle.layout.specs.Steps.Accepted.{Accepted}
 use Rattle.layout.specs.Channels.{active, channel_name, channels_of, active_names, active_count}
 use Rattle.layout.specs.Questions.{in_room, ordered, topology_y}
 use Rattle.layout.specs.Topology.{TopologyRow, TopologyLayer, rows_of, topology_of, used_layers, used_rows, used_anchors, anchor_x, row_y, row_count, layer_z, layer_count}
 use Rattle.layout.specs.Steps.Starts.{starts_from, anchor_starts, row_starts, layer_starts, anchor_index, no_anchor}
-use Rattle.layout.proofs.TopologyStarts.{rows_take, rows-length}
-use Rattle.layout.proofs.TopologyFlat.{topology-rows, topology-y, topology-z, topology-length, topology-layer, topology-row}
-use Rattle.layout.proofs.TopologyRanges.{row-rises, row-end, row-most, anchor-rises, anchor-end, anchor-most}
+use Rattle.layout.proofs.TopologyStarts.{rows_take, rows_length}
+use Rattle.layout.proofs.TopologyFlat.{topology_rows_lem, topology_y_lem, topology_z_lem, topology_length, topology_layer, topology_row}
+use Rattle.layout.proofs.TopologyRanges.{row_rises, row_end, row_most, anchor_rises, anchor_end, anchor_most}
 use Rattle.field.specs.Knots.{X, Y, Z, sample}
 use Rattle.field.specs.Responses.{response_on, weights_on, layer_pick}
 use Rattle.field.specs.Steps.Flat.{pick_end, response_added, responded, responded_z, Parted, Grouped}
-use Rattle.field.proofs.ResponseRows.{weights_added, place-within, rows-hold}
+use Rattle.field.proofs.ResponseRows.{weights_added, place_within, rows_hold}
 use Rattle.field.proofs.ResponseSpread.{all_in}
-use Rattle.field.proofs.ResponseAxes.{Flat, rows_in, no_topology_row, no_topology_layer, slice-take, get_or-mapped, rising-to, added-x, named-x, added-y, named-y, added-z, named-z}
-use Rattle.field.proofs.ResponseSamples.{first, at, sample-finite}
-use Rattle.field.proofs.response.Picks.{get_or-slice, layers-pick-end}
+use Rattle.field.proofs.ResponseAxes.{Flat, rows_in, no_topology_row, no_topology_layer, slice_take, get_or_mapped, rising_to_lem, added_x, named_x, added_y, named_y, added_z, named_z}
+use Rattle.field.proofs.ResponseSamples.{first, at, sample_finite}
+use Rattle.field.proofs.response.Picks.{get_or_slice, layers_pick_end}
 
 -- ---- the active names are distinct, since the channels' names are
 or_right : (c d : Bool) → T d → T (c || d)
@@ -43,15 +43,15 @@ or_map : (c d e : Bool) → (T d → T e) → T (c || d) → T (c || e)
 or_map true d e h t = tt
 or_map false d e h t = h t
 
-not-map : (d e : Bool) → (T d → T e) → T (not e) → T (not d)
-not-map true true h t = t
-not-map true false h t = absurd (h tt)
-not-map false e h t = tt
+not_map : (d e : Bool) → (T d → T e) → T (not e) → T (not d)
+not_map true true h t = t
+not_map true false h t = absurd (h tt)
+not_map false e h t = tt
 
 module _ {A : Type 0} (f : A → ℕ) (p : A → Bool) where
-  elem-filter : (n : ℕ) (xs : List A) → T (elem n (map f (filtered p xs))) → T (elem n (map f xs))
-  elem-filter n [] t = t
-  elem-filter n (x ∷ xs) t = go (p x) (elem-filter n xs) t
+  elem_filter : (n : ℕ) (xs : List A) → T (elem n (map f (filtered p xs))) → T (elem n (map f xs))
+  elem_filter n [] t = t
+  elem_filter n (x ∷ xs) t = go (p x) (elem_filter n xs) t
     where
       go : (b : Bool) → (T (elem n (map f (filtered p xs))) → T (elem n (map f xs))) → T (elem n (map f (cond b (x ∷ filtered p xs) (filtered p xs)))) → T (eqb (f x) n || elem n (map f xs))
       go true h s = or_map (eqb (f x) n) (elem n (map f (filtered p xs))) (elem n (map f xs)) h s
@@ -64,20 +64,20 @@ module _ {A : Type 0} (f : A → ℕ) (p : A → Bool) where
       go : (b : Bool) → T (all_distinct (map f (filtered p xs))) → T (all_distinct (map f (cond b (x ∷ filtered p xs) (filtered p xs))))
       go true d =
           and_i (not (elem (f x) (map f (filtered p xs)))) (all_distinct (map f (filtered p xs)))
-          (not-map (elem (f x) (map f (filtered p xs))) (elem (f x) (map f xs)) (elem-filter (f x) xs) (and_l (not (elem (f x) (map f xs))) (all_distinct (map f xs)) t)) d
+          (not_map (elem (f x) (map f (filtered p xs))) (elem (f x) (map f xs)) (elem_filter (f x) xs) (and_l (not (elem (f x) (map f xs))) (all_distinct (map f xs)) t)) d
       go false d = d
 
 -- ---- ordered coordinates are finite
-pub ordered-finite : (xs : List Float) (i : ℕ) → T (ordered xs) → i < length xs → T (finite (get_or xs i nan))
-ordered-finite xs i t h =
+pub ordered_finite : (xs : List Float) (i : ℕ) → T (ordered xs) → i < length xs → T (finite (get_or xs i nan))
+ordered_finite xs i t h =
     let x = get_or xs i nan in
     and_l (finite x) (is_between minus_one64 one64 x) (all_in in_room nan xs i (and_l (all_of in_room xs) (chain lt xs) t) h)
 
-part-finite : (v : List Float) (a b i : ℕ) → b ≤ length v → T (ordered (slice a b v)) → a ≤ i → i < b → T (finite (get_or v i nan))
-part-finite v a b i long t h k =
+part_finite : (v : List Float) (a b i : ℕ) → b ≤ length v → T (ordered (slice a b v)) → a ≤ i → i < b → T (finite (get_or v i nan))
+part_finite v a b i long t h k =
     let e : a + (i - a) ≡ i = omega arith in
     let n = length-slice a b v long in
-    rw (get_or-slice a b v (i - a) nan (omega arith), e) at (ordered-finite (slice a b v) (i - a) t (omega arith))
+    rw (get_or_slice a b v (i - a) nan (omega arith), e) at (ordered_finite (slice a b v) (i - a) t (omega arith))
 
 -- ---- each anchor as a part of its own
 abbrev pub ones : List ℕ
@@ -87,201 +87,201 @@ single : (i : ℕ) → i ≤ 24 → get_or ones i 0 ≡ i
 unfolding first
 single i h = eqb→eq (get_or ones i 0) i (at (λ (j : ℕ). eqb (get_or ones j 0) j) 25 i tt (omega arith))
 
-starts-size : (cs : List ℕ) (s : ℕ) → length (starts_from s cs) ≡ suc (length cs)
-starts-size [] s = refl
-starts-size (c ∷ cs) s = ap suc (starts-size cs (min (s + c) 24))
+starts_size : (cs : List ℕ) (s : ℕ) → length (starts_from s cs) ≡ suc (length cs)
+starts_size [] s = refl
+starts_size (c ∷ cs) s = ap suc (starts_size cs (min (s + c) 24))
 
 module _ (l : Layout) (layers : length l.layers ≡ 4) (rows : length l.rows ≡ 24) (anchors : length l.anchors ≡ 24) (a : Accepted l) where
-  names-distinct : T (all_distinct (active_names l))
-  names-distinct = distinct_filter channel_name active (channels_of l) a.channels_distinct
+  names_distinct : T (all_distinct (active_names l))
+  names_distinct = distinct_filter channel_name active (channels_of l) a.channels_distinct
 
   abbrev row_total : ℕ
   row_total = length (used_rows l)
 
   -- the rows of the topology
   rows_in_lem : rows_in (topology_of l) ≡ take row_total (rows_of l.rows l.anchors)
-  rows_in_lem = topology-rows l ∙ sym (rows_take (total (map layer_count (used_layers l))) l.rows l.anchors) ∙ ap (λ (n : ℕ). take n (rows_of l.rows l.anchors)) (sym a.row_total)
+  rows_in_lem = topology_rows_lem l ∙ sym (rows_take (total (map layer_count (used_layers l))) l.rows l.anchors) ∙ ap (λ (n : ℕ). take n (rows_of l.rows l.anchors)) (sym a.row_total)
 
-  rows-count : length (rows_in (topology_of l)) ≡ row_total
-  rows-count = ap length (topology-rows l) ∙ rows-length (used_rows l) l.anchors
+  rows_count : length (rows_in (topology_of l)) ≡ row_total
+  rows_count = ap length (topology_rows_lem l) ∙ rows_length (used_rows l) l.anchors
 
   flat : Flat (active_names l) (topology_of l) l.anchors (anchor_starts l) (row_starts l) (map row_y l.rows)
   flat =
       let few = a.few_layers in
-      let depth = topology-length l layers rows anchors few in
+      let depth = topology_length l layers rows anchors few in
       let most = a.most_rows in
       let many = a.most_anchors in
-      let n = rows-count in
+      let n = rows_count in
       record {
         row_cut = λ r h.
             rw (rows_in_lem, add-one)
-            (ap (λ (t : TopologyRow). t.anchors) (get_or-take row_total (rows_of l.rows l.anchors) r no_topology_row (omega arith) ∙ topology-row l layers rows anchors few r no_topology_row (omega arith)));
+            (ap (λ (t : TopologyRow). t.anchors) (get_or-take row_total (rows_of l.rows l.anchors) r no_topology_row (omega arith) ∙ topology_row l layers rows anchors few r no_topology_row (omega arith)));
         layer_cut = λ i h.
             rw (rows_in_lem, add-one)
-            (ap (λ (t : TopologyLayer). t.rows) (topology-layer l layers rows anchors few i no_topology_layer (omega arith))
-            ∙ sym (slice-take (get_or (row_starts l) i 0) (get_or (row_starts l) (suc i) 0) row_total (rows_of l.rows l.anchors) (row-most l layers rows a (suc i) (omega arith))));
-        y_cut = rw n (ap (map topology_y) rows_in_lem ∙ map-take topology_y row_total (rows_of l.rows l.anchors) ∙ ap (take row_total) (topology-y l));
-        rise = λ r h. rw add-one (le_of_lt (anchor-rises l layers rows a r (omega arith)));
-        within = rw n (omega (arith, anchor-end l layers rows a));
-        rows_rise = λ i h. rw add-one (le_of_lt (row-rises l layers rows a i (omega arith)));
-        rows_within = rw (depth, n) (le_of_eq (row-end l layers rows a));
-        actives = λ i h. a.anchor_active i (rw (n, anchor-end l layers rows a) at h);
+            (ap (λ (t : TopologyLayer). t.rows) (topology_layer l layers rows anchors few i no_topology_layer (omega arith))
+            ∙ sym (slice_take (get_or (row_starts l) i 0) (get_or (row_starts l) (suc i) 0) row_total (rows_of l.rows l.anchors) (row_most l layers rows a (suc i) (omega arith))));
+        y_cut = rw n (ap (map topology_y) rows_in_lem ∙ map_take topology_y row_total (rows_of l.rows l.anchors) ∙ ap (take row_total) (topology_y_lem l));
+        rise = λ r h. rw add-one (le_of_lt (anchor_rises l layers rows a r (omega arith)));
+        within = rw n (omega (arith, anchor_end l layers rows a));
+        rows_rise = λ i h. rw add-one (le_of_lt (row_rises l layers rows a i (omega arith)));
+        rows_within = rw (depth, n) (le_of_eq (row_end l layers rows a));
+        actives = λ i h. a.anchor_active i (rw (n, anchor_end l layers rows a) at h);
       }
 
   -- ---- what the code asks of the lists
-  place-small : (i : ℕ) → i < length (used_anchors l) → get_or (map (anchor_index l) l.anchors) i 0 < 24
-  place-small i h =
+  place_small : (i : ℕ) → i < length (used_anchors l) → get_or (map (anchor_index l) l.anchors) i 0 < 24
+  place_small i h =
       let few = a.few_active in
       let many = a.most_anchors in
-      rw (get_or-mapped (anchor_index l) l.anchors i no_anchor 0 (omega arith)) (le_trans (place-within (get_or l.anchors i no_anchor).name (active_names l) (a.anchor_active i h)) few)
+      rw (get_or_mapped (anchor_index l) l.anchors i no_anchor 0 (omega arith)) (le_trans (place_within (get_or l.anchors i no_anchor).name (active_names l) (a.anchor_active i h)) few)
 
-  places-length : length (map (anchor_index l) l.anchors) ≡ 24
-  places-length = length-map l.anchors (anchor_index l) ∙ anchors
+  places_length : length (map (anchor_index l) l.anchors) ≡ 24
+  places_length = length-map l.anchors (anchor_index l) ∙ anchors
 
-  anchor-starts-length : length (anchor_starts l) ≡ 25
-  anchor-starts-length = starts-size (map row_count l.rows) 0 ∙ ap suc (length-map l.rows row_count ∙ rows)
+  anchor_starts_length : length (anchor_starts l) ≡ 25
+  anchor_starts_length = starts_size (map row_count l.rows) 0 ∙ ap suc (length-map l.rows row_count ∙ rows)
 
-  row-starts-length : length (row_starts l) ≡ 5
-  row-starts-length = starts-size (map layer_count l.layers) 0 ∙ ap suc (length-map l.layers layer_count ∙ layers)
+  row_starts_length : length (row_starts l) ≡ 5
+  row_starts_length = starts_size (map layer_count l.layers) 0 ∙ ap suc (length-map l.layers layer_count ∙ layers)
 
   -- X
-  pub x-grouped : Grouped (map anchor_x l.anchors) (anchor_starts l) row_total
-  x-grouped =
+  pub x_grouped : Grouped (map anchor_x l.anchors) (anchor_starts l) row_total
+  x_grouped =
       let most = a.most_rows in
       let many = a.most_anchors in
       let size = length-map l.anchors anchor_x ∙ anchors in
-      let end = anchor-end l layers rows a in
+      let end = anchor_end l layers rows a in
       let up_to : (g : ℕ) → g < row_total → get_or (anchor_starts l) (g + 1) 0 ≤ get_or (anchor_starts l) row_total 0 =
-      λ g h. rising-to (anchor_starts l) row_total (λ r k. rw add-one (le_of_lt (anchor-rises l layers rows a r k))) (g + 1) row_total (omega arith) (le_refl row_total) in
+      λ g h. rising_to_lem (anchor_starts l) row_total (λ r k. rw add-one (le_of_lt (anchor_rises l layers rows a r k))) (g + 1) row_total (omega arith) (le_refl row_total) in
       record {
-        many = omega (arith, anchor-starts-length);
-        some = λ g h. rw add-one (anchor-rises l layers rows a g h);
+        many = omega (arith, anchor_starts_length);
+        some = λ g h. rw add-one (anchor_rises l layers rows a g h);
         ends = up_to;
         within = omega arith;
-        finites = λ g i h j k. part-finite (map anchor_x l.anchors) (get_or (anchor_starts l) g 0) (get_or (anchor_starts l) (g + 1) 0) i (omega (arith, up_to g h)) (rw add-one (a.xs_ordered g h)) j k;
+        finites = λ g i h j k. part_finite (map anchor_x l.anchors) (get_or (anchor_starts l) g 0) (get_or (anchor_starts l) (g + 1) 0) i (omega (arith, up_to g h)) (rw add-one (a.xs_ordered g h)) j k;
       }
 
-  pub x-parted : Parted (map (anchor_index l) l.anchors) ones (get_or (anchor_starts l) row_total 0)
-  x-parted =
+  pub x_parted : Parted (map (anchor_index l) l.anchors) ones (get_or (anchor_starts l) row_total 0)
+  x_parted =
       let many = a.most_anchors in
-      let end = anchor-end l layers rows a in
+      let end = anchor_end l layers rows a in
       record {
         many = omega arith;
-        ends = λ i h. omega (arith, single i (omega arith), places-length);
-        places = λ i j h k. place-small j (omega (arith, single i (omega arith)));
+        ends = λ i h. omega (arith, single i (omega arith), places_length);
+        places = λ i j h k. place_small j (omega (arith, single i (omega arith)));
       }
 
   -- Y
-  pub y-grouped : Grouped (map row_y l.rows) (row_starts l) l.depth
-  y-grouped =
+  pub y_grouped : Grouped (map row_y l.rows) (row_starts l) l.depth
+  y_grouped =
       let few = a.few_layers in
       let most = a.most_rows in
       let size = length-map l.rows row_y ∙ rows in
-      let end = row-end l layers rows a in
+      let end = row_end l layers rows a in
       record {
-        many = omega (arith, row-starts-length);
-        some = λ g h. rw add-one (row-rises l layers rows a g h);
-        ends = λ g h. rw end (row-most l layers rows a (g + 1) (omega arith));
+        many = omega (arith, row_starts_length);
+        some = λ g h. rw add-one (row_rises l layers rows a g h);
+        ends = λ g h. rw end (row_most l layers rows a (g + 1) (omega arith));
         within = omega arith;
-        finites = λ g i h j k. part-finite (map row_y l.rows) (get_or (row_starts l) g 0) (get_or (row_starts l) (g + 1) 0) i (omega (arith, row-most l layers rows a (g + 1) (omega arith))) (rw add-one (a.ys_ordered g h)) j k;
+        finites = λ g i h j k. part_finite (map row_y l.rows) (get_or (row_starts l) g 0) (get_or (row_starts l) (g + 1) 0) i (omega (arith, row_most l layers rows a (g + 1) (omega arith))) (rw add-one (a.ys_ordered g h)) j k;
       }
 
-  pub y-parted : Parted (map (anchor_index l) l.anchors) (anchor_starts l) (get_or (row_starts l) l.depth 0)
-  y-parted =
+  pub y_parted : Parted (map (anchor_index l) l.anchors) (anchor_starts l) (get_or (row_starts l) l.depth 0)
+  y_parted =
       let most = a.most_rows in
       let many = a.most_anchors in
-      let end = row-end l layers rows a in
+      let end = row_end l layers rows a in
       record {
-        many = omega (arith, anchor-starts-length);
-        ends = λ i h. omega (arith, anchor-most l layers rows a i (omega arith), places-length);
-        places = λ i j h k. place-small j (omega (arith, anchor-most l layers rows a i (omega arith)));
+        many = omega (arith, anchor_starts_length);
+        ends = λ i h. omega (arith, anchor_most l layers rows a i (omega arith), places_length);
+        places = λ i j h k. place_small j (omega (arith, anchor_most l layers rows a i (omega arith)));
       }
 
   -- Z
-  pub z-finite : (i : ℕ) → i < l.depth → T (finite (get_or (map layer_z l.layers) i nan))
-  z-finite i h =
+  pub z_finite : (i : ℕ) → i < l.depth → T (finite (get_or (map layer_z l.layers) i nan))
+  z_finite i h =
       let few = a.few_layers in
       let n = length-take-le l.depth (map layer_z l.layers) (omega (arith, length-map l.layers layer_z)) in
-      rw (get_or-take l.depth (map layer_z l.layers) i nan h) at (ordered-finite (take l.depth (map layer_z l.layers)) i a.zs_ordered (omega arith))
+      rw (get_or-take l.depth (map layer_z l.layers) i nan h) at (ordered_finite (take l.depth (map layer_z l.layers)) i a.zs_ordered (omega arith))
 
-  layer-start : (i : ℕ) → i ≤ l.depth → get_or (layer_starts l) i 0 ≡ get_or (anchor_starts l) (get_or (row_starts l) i 0) 0
-  layer-start i h =
+  layer_start : (i : ℕ) → i ≤ l.depth → get_or (layer_starts l) i 0 ≡ get_or (anchor_starts l) (get_or (row_starts l) i 0) 0
+  layer_start i h =
       let few = a.few_layers in
-      get_or-mapped (λ (r : ℕ). get_or (anchor_starts l) r 0) (row_starts l) i 0 0 (omega (arith, row-starts-length))
+      get_or_mapped (λ (r : ℕ). get_or (anchor_starts l) r 0) (row_starts l) i 0 0 (omega (arith, row_starts_length))
 
-  pub z-parted : Parted (map (anchor_index l) l.anchors) (layer_starts l) l.depth
-  z-parted =
+  pub z_parted : Parted (map (anchor_index l) l.anchors) (layer_starts l) l.depth
+  z_parted =
       let few = a.few_layers in
       let many = a.most_anchors in
       let end : (i : ℕ) → i ≤ l.depth → get_or (layer_starts l) i 0 ≤ length (used_anchors l) =
-      λ i h. rw (layer-start i h) (anchor-most l layers rows a (get_or (row_starts l) i 0) (row-most l layers rows a i h)) in
+      λ i h. rw (layer_start i h) (anchor_most l layers rows a (get_or (row_starts l) i 0) (row_most l layers rows a i h)) in
       record {
-        many = omega (arith, length-map (row_starts l) (λ (r : ℕ). get_or (anchor_starts l) r 0), row-starts-length);
-        ends = λ i h. omega (arith, end i h, places-length);
-        places = λ i j h k. place-small j (omega (arith, end i h));
+        many = omega (arith, length-map (row_starts l) (λ (r : ℕ). get_or (anchor_starts l) r 0), row_starts_length);
+        ends = λ i h. omega (arith, end i h, places_length);
+        places = λ i j h k. place_small j (omega (arith, end i h));
       }
 
   -- ---- what the code leaves in a list of zeros
-  single-anchor : (i : ℕ) → i ≤ length l.anchors → get_or ones i 0 ≡ i
-  single-anchor i h = single i (omega arith)
+  single_anchor : (i : ℕ) → i ≤ length l.anchors → get_or ones i 0 ≡ i
+  single_anchor i h = single i (omega arith)
 
-  topology-grouped-x : Grouped (map anchor_x l.anchors) (anchor_starts l) (length (rows_in (topology_of l)))
-  topology-grouped-x = rw rows-count x-grouped
+  topology_grouped_x : Grouped (map anchor_x l.anchors) (anchor_starts l) (length (rows_in (topology_of l)))
+  topology_grouped_x = rw rows_count x_grouped
 
   depth_is : length (topology_of l) ≡ l.depth
-  depth_is = topology-length l layers rows anchors a.few_layers
+  depth_is = topology_length l layers rows anchors a.few_layers
 
-  topology-grouped-y : Grouped (map row_y l.rows) (row_starts l) (length (topology_of l))
-  topology-grouped-y = rw depth_is y-grouped
+  topology_grouped_y : Grouped (map row_y l.rows) (row_starts l) (length (topology_of l))
+  topology_grouped_y = rw depth_is y_grouped
 
-  adds-x : (i : ℕ) → i < 20 → (out : List Float) →
+  adds_x : (i : ℕ) → i < 20 → (out : List Float) →
       response_added (i * 24) (map (anchor_index l) l.anchors) ones (map anchor_x l.anchors) (anchor_starts l) row_total (sample X i) out ≡ weights_added (i * 24) (active_names l) (weights_on X (topology_of l) (sample X i)) out
-  adds-x i h out =
-      rw (← rows-count)
-      (added-x (active_names l) (topology_of l) l.anchors (anchor_starts l) (row_starts l) (map row_y l.rows) flat ones single-anchor topology-grouped-x (sample X i) (sample-finite X i h) (i * 24) out)
+  adds_x i h out =
+      rw (← rows_count)
+      (added_x (active_names l) (topology_of l) l.anchors (anchor_starts l) (row_starts l) (map row_y l.rows) flat ones single_anchor topology_grouped_x (sample X i) (sample_finite X i h) (i * 24) out)
 
-  adds-y : (i : ℕ) → i < 20 → (out : List Float) →
+  adds_y : (i : ℕ) → i < 20 → (out : List Float) →
       response_added (i * 24) (map (anchor_index l) l.anchors) (anchor_starts l) (map row_y l.rows) (row_starts l) l.depth (sample Y i) out ≡ weights_added (i * 24) (active_names l) (weights_on Y (topology_of l) (sample Y i)) out
-  adds-y i h out =
+  adds_y i h out =
       ap (λ (n : ℕ). response_added (i * 24) (map (anchor_index l) l.anchors) (anchor_starts l) (map row_y l.rows) (row_starts l) n (sample Y i) out) (sym depth_is)
-      ∙ (added-y (active_names l) (topology_of l) l.anchors (anchor_starts l) (row_starts l) (map row_y l.rows) flat topology-grouped-y (sample Y i) (sample-finite Y i h) (i * 24) out)
+      ∙ (added_y (active_names l) (topology_of l) l.anchors (anchor_starts l) (row_starts l) (map row_y l.rows) flat topology_grouped_y (sample Y i) (sample_finite Y i h) (i * 24) out)
 
   module _ (out : List Float) where
-    pub responses-x : 480 ≤ length out → ((i : ℕ) → i < 480 → get_or out i nan ≡ zero64) → (s k : ℕ) → s < 20 → k < active_count l →
+    pub responses_x_lem : 480 ≤ length out → ((i : ℕ) → i < 480 → get_or out i nan ≡ zero64) → (s k : ℕ) → s < 20 → k < active_count l →
         get_or (responded (map (anchor_index l) l.anchors) ones (map anchor_x l.anchors) (anchor_starts l) row_total 20 out) (s * 24 + k) nan ≡ response_on X (topology_of l) (sample X s) (get_or (active_names l) k 0)
     unfolding responded response_on
-    responses-x long zeros s k h m =
-        rows-hold (active_names l) names-distinct a.few_active 20 (λ (i : ℕ). weights_on X (topology_of l) (sample X i))
-        (λ i j. named-x (active_names l) (topology_of l) l.anchors (anchor_starts l) (row_starts l) (map row_y l.rows) flat ones single-anchor topology-grouped-x (sample X i) (sample-finite X i j))
+    responses_x_lem long zeros s k h m =
+        rows_hold (active_names l) names_distinct a.few_active 20 (λ (i : ℕ). weights_on X (topology_of l) (sample X i))
+        (λ i j. named_x (active_names l) (topology_of l) l.anchors (anchor_starts l) (row_starts l) (map row_y l.rows) flat ones single_anchor topology_grouped_x (sample X i) (sample_finite X i j))
         _
-        adds-x
+        adds_x
         out long zeros 20 s k (le_refl 20) h m
 
-    pub responses-y : 480 ≤ length out → ((i : ℕ) → i < 480 → get_or out i nan ≡ zero64) → (s k : ℕ) → s < 20 → k < active_count l →
+    pub responses_y_lem : 480 ≤ length out → ((i : ℕ) → i < 480 → get_or out i nan ≡ zero64) → (s k : ℕ) → s < 20 → k < active_count l →
         get_or (responded (map (anchor_index l) l.anchors) (anchor_starts l) (map row_y l.rows) (row_starts l) l.depth 20 out) (s * 24 + k) nan ≡ response_on Y (topology_of l) (sample Y s) (get_or (active_names l) k 0)
     unfolding responded response_on
-    responses-y long zeros s k h m =
-        rows-hold (active_names l) names-distinct a.few_active 20 (λ (i : ℕ). weights_on Y (topology_of l) (sample Y i))
-        (λ i j. named-y (active_names l) (topology_of l) l.anchors (anchor_starts l) (row_starts l) (map row_y l.rows) flat topology-grouped-y (sample Y i) (sample-finite Y i j))
+    responses_y_lem long zeros s k h m =
+        rows_hold (active_names l) names_distinct a.few_active 20 (λ (i : ℕ). weights_on Y (topology_of l) (sample Y i))
+        (λ i j. named_y (active_names l) (topology_of l) l.anchors (anchor_starts l) (row_starts l) (map row_y l.rows) flat topology_grouped_y (sample Y i) (sample_finite Y i j))
         _
-        adds-y
+        adds_y
         out long zeros 20 s k (le_refl 20) h m
 
-    z-end : (s : ℕ) → s < 8 → pick_end (layer_pick (take l.depth (map layer_z l.layers)) (sample Z s)) ≤ l.depth
-    z-end s h =
+    z_end : (s : ℕ) → s < 8 → pick_end (layer_pick (take l.depth (map layer_z l.layers)) (sample Z s)) ≤ l.depth
+    z_end s h =
         let few = a.few_layers in
         let some = a.some_layers in
-        layers-pick-end (map layer_z l.layers) l.depth (sample Z s) (omega (arith, length-map l.layers layer_z)) some (sample-finite Z s h) (z-finite 0 some)
+        layers_pick_end (map layer_z l.layers) l.depth (sample Z s) (omega (arith, length-map l.layers layer_z)) some (sample_finite Z s h) (z_finite 0 some)
 
-    pub responses-z : 192 ≤ length out → ((i : ℕ) → i < 192 → get_or out i nan ≡ zero64) → (s k : ℕ) → s < 8 → k < active_count l →
+    pub responses_z_lem : 192 ≤ length out → ((i : ℕ) → i < 192 → get_or out i nan ≡ zero64) → (s k : ℕ) → s < 8 → k < active_count l →
         get_or (responded_z (map (anchor_index l) l.anchors) (layer_starts l) (map layer_z l.layers) l.depth 8 out) (s * 24 + k) nan ≡ response_on Z (topology_of l) (sample Z s) (get_or (active_names l) k 0)
     unfolding responded_z response_on
-    responses-z long zeros s k h m =
-        rows-hold (active_names l) names-distinct a.few_active 8 (λ (i : ℕ). weights_on Z (topology_of l) (sample Z i))
-        (λ i j. named-z (active_names l) (topology_of l) l.anchors (anchor_starts l) (row_starts l) (map row_y l.rows) flat (map layer_z l.layers) l.depth (sym depth_is) (topology-z l) (layer_starts l) layer-starts (sample Z i) (z-end i j))
+    responses_z_lem long zeros s k h m =
+        rows_hold (active_names l) names_distinct a.few_active 8 (λ (i : ℕ). weights_on Z (topology_of l) (sample Z i))
+        (λ i j. named_z (active_names l) (topology_of l) l.anchors (anchor_starts l) (row_starts l) (map row_y l.rows) flat (map layer_z l.layers) l.depth (sym depth_is) (topology_z_lem l) (layer_starts l) layer_starts_lem (sample Z i) (z_end i j))
         _
-        (λ i j o. added-z (active_names l) (topology_of l) l.anchors (anchor_starts l) (row_starts l) (map row_y l.rows) flat (map layer_z l.layers) l.depth (sym depth_is) (topology-z l) (layer_starts l) layer-starts (i * 24) (sample Z i) o (z-end i j))
+        (λ i j o. added_z (active_names l) (topology_of l) l.anchors (anchor_starts l) (row_starts l) (map row_y l.rows) flat (map layer_z l.layers) l.depth (sym depth_is) (topology_z_lem l) (layer_starts l) layer_starts_lem (i * 24) (sample Z i) o (z_end i j))
         out long zeros 8 s k (le_refl 8) h m
       where
-        layer-starts : (i : ℕ) → i ≤ length (topology_of l) → get_or (layer_starts l) i 0 ≡ get_or (anchor_starts l) (get_or (row_starts l) i 0) 0
-        layer-starts i h = layer-start i (omega (arith, depth_is))
+        layer_starts_lem : (i : ℕ) → i ≤ length (topology_of l) → get_or (layer_starts l) i 0 ≡ get_or (anchor_starts l) (get_or (row_starts l) i 0) 0
+        layer_starts_lem i h = layer_start i (omega (arith, depth_is))

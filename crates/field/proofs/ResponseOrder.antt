@@ -9,9 +9,9 @@ use lib.Dec.{T, ltb, eqb}
 use lib.Ieee.{Float, nan, inf, fin, up, down, below, level, lt, eq, le}
 use lib.Ieee.Scale.{finite}
 
-or-false : (p q : Bool) → (p || q) ≡ false → (p ≡ false) × (q ≡ false)
-or-false true q e = absurd (true≢false e)
-or-false false q e = (refl, e)
+or_false : (p q : Bool) → (p || q) ≡ false → (p ≡ false) × (q ≡ false)
+or_false true q e = absurd (true≢false e)
+or_false false q e = (refl, e)
 
 and-true : (p : Bool) → (p && true) ≡ false → p ≡ false
 and-true true e = e
@@ -24,7 +24,7 @@ zeros a b e = let h = ltb-false 0 (a + b) e in rw (eq-eqb a b (omega arith), eq-
 -- what is not below or equal is above
 turned : (s t : Bool) (a b : ℕ) → (below s a t b || level s a t b) ≡ false → below t b s a ≡ true
 turned false false a b e =
-    let h = or-false (ltb a b) (eqb a b && true) e in
+    let h = or_false (ltb a b) (eqb a b && true) e in
     let k = ltb-false a b h.0 in
     let n = eqb-false a b (and-true (eqb a b) h.1) in
     lt-ltb b a (omega arith)
@@ -33,9 +33,9 @@ turned false true a b e = go (ltb 0 (b + a)) refl
     go : (c : Bool) → ltb 0 (b + a) ≡ c → c ≡ true
     go true q = refl
     go false q = sym e ∙ zeros a b (ap (ltb 0) (add_comm a b) ∙ q)
-turned true false a b e = let h = or-false (ltb 0 (a + b)) (eqb a b && eqb a 0) e in sym h.1 ∙ zeros a b h.0
+turned true false a b e = let h = or_false (ltb 0 (a + b)) (eqb a b && eqb a 0) e in sym h.1 ∙ zeros a b h.0
 turned true true a b e =
-    let h = or-false (ltb b a) (eqb a b && true) e in
+    let h = or_false (ltb b a) (eqb a b && true) e in
     let k = ltb-false b a h.0 in
     let n = eqb-false a b (and-true (eqb a b) h.1) in
     lt-ltb a b (omega arith)
@@ -48,6 +48,6 @@ lt_of_not_le (fin s m e) nan h k q = absurd k
 lt_of_not_le (fin s m e) (inf t) h k q = absurd k
 lt_of_not_le (fin s m e) (fin t n d) h k q = turned s t (m * up e * down d) (n * up d * down e) q
 
-pub not-lt-of-not-le : (x y : Float) → le x y ≡ false → lt x y ≡ false
+pub not_lt_of_not_le : (x y : Float) → le x y ≡ false → lt x y ≡ false
 unfolding le
-not-lt-of-not-le x y e = (or-false (lt x y) (eq x y) e).0
+not_lt_of_not_le x y e = (or_false (lt x y) (eq x y) e).0

@@ -12,19 +12,19 @@ use Rattle.doubles.specs.Arithmetic.{zero64, one64}
 use Rattle.field.specs.Knots.{Axis, X, Y, Z, steps, sample, sample_count}
 
 -- ---- the ends
-pub first-sample : (a : Axis) → sample a 0 ≡ zero64
+pub first_sample : (a : Axis) → sample a 0 ≡ zero64
 unfolding div of_int round
-first-sample X = refl
-first-sample Y = refl
-first-sample Z = refl
+first_sample X = refl
+first_sample Y = refl
+first_sample Z = refl
 
-pub last-sample-xy : steps 19 19 ≡ one64
+pub last_sample_xy : steps 19 19 ≡ one64
 unfolding div of_int round
-last-sample-xy = refl
+last_sample_xy = refl
 
-pub last-sample-z : steps 7 7 ≡ one64
+pub last_sample_z : steps 7 7 ≡ one64
 unfolding div of_int round
-last-sample-z = refl
+last_sample_z = refl
 
 -- ---- every one
 
@@ -45,5 +45,5 @@ samples X = tt
 samples Y = tt
 samples Z = tt
 
-pub sample-finite : (a : Axis) (s : ℕ) → s < sample_count a → T (finite (sample a s))
-sample-finite a s h = at (λ (i : ℕ). finite (sample a i)) (sample_count a) s (samples a) h
+pub sample_finite : (a : Axis) (s : ℕ) → s < sample_count a → T (finite (sample a s))
+sample_finite a s h = at (λ (i : ℕ). finite (sample a i)) (sample_count a) s (samples a) h

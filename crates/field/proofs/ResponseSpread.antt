@@ -14,27 +14,27 @@ use lib.ListN.{length, get_or, take, drop}
 use lib.Seq.{slice, length-slice}
 use Rattle.doubles.specs.Arithmetic.{one64}
 use Rattle.lists.specs.Lists.{all_of, elem, index_of, flatten}
-use Rattle.lists.proofs.Takes.{map-take}
+use Rattle.lists.proofs.Takes.{map_take}
 use Rattle.layout.specs.declared.Anchor.{Anchor}
 use Rattle.layout.specs.Steps.Starts.{no_anchor}
 use Rattle.layout.proofs.Coordinates.{all_append}
-use Rattle.layout.proofs.TopologyLists.{map-drop}
+use Rattle.layout.proofs.TopologyLists.{map_drop}
 use Rattle.field.specs.declared.Pick.{Pick}
 use Rattle.field.specs.declared.Pick.TheVariants.{One, Two}
 use Rattle.field.specs.Responses.{Weight, weighted, weights_of, pick_of}
 use Rattle.field.specs.Steps.Flat.{shifted, pick_end, added_at, part_at, pick_added, group_pick, response_added, Grouped}
-use Rattle.field.proofs.ResponseRows.{weight_added, weights_added, weights-append, named}
-use Rattle.field.proofs.response.Picks.{get_or-slice, pick_end_lem, part_length, part-some, part-first}
-use Rattle.field.proofs.response.Runs.{response-none, response-more, group-within, group-first}
+use Rattle.field.proofs.ResponseRows.{weight_added, weights_added, weights_append, named}
+use Rattle.field.proofs.response.Picks.{get_or_slice, pick_end_lem, part_length, part_some, part_first}
+use Rattle.field.proofs.response.Runs.{response_none, response_more, group_within, group_first}
 
 -- ---- lists
-pub map-slice : {A B : Type 0} (f : A → B) (a b : ℕ) (xs : List A) → slice a b (map f xs) ≡ map f (slice a b xs)
-map-slice f a b xs = ap (drop a) (sym (map-take f b xs)) ∙ sym (map-drop f a (take b xs))
+pub map_slice : {A B : Type 0} (f : A → B) (a b : ℕ) (xs : List A) → slice a b (map f xs) ≡ map f (slice a b xs)
+map_slice f a b xs = ap (drop a) (sym (map_take f b xs)) ∙ sym (map_drop f a (take b xs))
 
 module _ {A : Type 0} (p : A → Bool) (d : A) where
-  pub all-at : (xs : List A) → ((i : ℕ) → i < length xs → T (p (get_or xs i d))) → T (all_of p xs)
-  all-at [] h = tt
-  all-at (x ∷ xs) h = and_i (p x) (all_of p xs) (h 0 (omega arith)) (all-at xs (λ i l. h (suc i) (omega arith)))
+  pub all_at : (xs : List A) → ((i : ℕ) → i < length xs → T (p (get_or xs i d))) → T (all_of p xs)
+  all_at [] h = tt
+  all_at (x ∷ xs) h = and_i (p x) (all_of p xs) (h 0 (omega arith)) (all_at xs (λ i l. h (suc i) (omega arith)))
 
   pub all_in : (xs : List A) (i : ℕ) → T (all_of p xs) → i < length xs → T (p (get_or xs i d))
   all_in [] i t h = absurd (omega arith)
@@ -47,21 +47,21 @@ gathered W zero = []
 gathered W (suc n) = gathered W n ++ W n
 
 module _ {A : Type 0} where
-  gathered-front : (W : ℕ → List A) (n : ℕ) → gathered W (suc n) ≡ W 0 ++ gathered (λ (i : ℕ). W (suc i)) n
-  gathered-front W zero = sym (append-nil (W 0))
-  gathered-front W (suc n) = ap (λ (r : List A). r ++ W (suc n)) (gathered-front W n) ∙ append_assoc (W 0) (gathered (λ (i : ℕ). W (suc i)) n) (W (suc n))
+  gathered_front : (W : ℕ → List A) (n : ℕ) → gathered W (suc n) ≡ W 0 ++ gathered (λ (i : ℕ). W (suc i)) n
+  gathered_front W zero = sym (append-nil (W 0))
+  gathered_front W (suc n) = ap (λ (r : List A). r ++ W (suc n)) (gathered_front W n) ∙ append_assoc (W 0) (gathered (λ (i : ℕ). W (suc i)) n) (W (suc n))
 
-  pub gathered-same : (U W : ℕ → List A) (n : ℕ) → ((i : ℕ) → i < n → U i ≡ W i) → gathered U n ≡ gathered W n
-  gathered-same U W zero h = refl
-  gathered-same U W (suc n) h = ap₂ (λ (a b : List A). a ++ b) (gathered-same U W n (λ i l. h i (omega arith))) (h n (omega arith))
+  pub gathered_same : (U W : ℕ → List A) (n : ℕ) → ((i : ℕ) → i < n → U i ≡ W i) → gathered U n ≡ gathered W n
+  gathered_same U W zero h = refl
+  gathered_same U W (suc n) h = ap₂ (λ (a b : List A). a ++ b) (gathered_same U W n (λ i l. h i (omega arith))) (h n (omega arith))
 
-  pub gathered-concat : {X : Type 0} (f : X → List A) (xs : List X) (d : X) → flatten (map f xs) ≡ gathered (λ (i : ℕ). f (get_or xs i d)) (length xs)
-  gathered-concat f [] d = refl
-  gathered-concat f (x ∷ xs) d = ap (λ (r : List A). f x ++ r) (gathered-concat f xs d) ∙ sym (gathered-front (λ (i : ℕ). f (get_or (x ∷ xs) i d)) (length xs))
+  pub gathered_concat : {X : Type 0} (f : X → List A) (xs : List X) (d : X) → flatten (map f xs) ≡ gathered (λ (i : ℕ). f (get_or xs i d)) (length xs)
+  gathered_concat f [] d = refl
+  gathered_concat f (x ∷ xs) d = ap (λ (r : List A). f x ++ r) (gathered_concat f xs d) ∙ sym (gathered_front (λ (i : ℕ). f (get_or (x ∷ xs) i d)) (length xs))
 
-  pub gathered-all : (p : A → Bool) (W : ℕ → List A) (n : ℕ) → ((i : ℕ) → i < n → T (all_of p (W i))) → T (all_of p (gathered W n))
-  gathered-all p W zero h = tt
-  gathered-all p W (suc n) h = all_append p (gathered W n) (W n) (gathered-all p W n (λ i l. h i (omega arith))) (h n (omega arith))
+  pub gathered_all : (p : A → Bool) (W : ℕ → List A) (n : ℕ) → ((i : ℕ) → i < n → T (all_of p (W i))) → T (all_of p (gathered W n))
+  gathered_all p W zero h = tt
+  gathered_all p W (suc n) h = all_append p (gathered W n) (W n) (gathered_all p W n (λ i l. h i (omega arith))) (h n (omega arith))
 
 -- ---- the anchors of a part
 module _ (names : List ℕ) where
@@ -71,48 +71,48 @@ module _ (names : List ℕ) where
   abbrev pub active_anchor : Anchor → Bool
   active_anchor a = elem a.name names
 
-  weighted-added : (base : ℕ) (w : Float) (xs : List Anchor) (out : List Float) → added_at base w (map placed xs) out ≡ weights_added base names (weighted w xs) out
+  weighted_added : (base : ℕ) (w : Float) (xs : List Anchor) (out : List Float) → added_at base w (map placed xs) out ≡ weights_added base names (weighted w xs) out
   unfolding added_at
-  weighted-added base w [] out = refl
-  weighted-added base w (a ∷ xs) out = weighted-added base w xs (weight_added base names (record { name = a.name; weight = w }) out)
+  weighted_added base w [] out = refl
+  weighted_added base w (a ∷ xs) out = weighted_added base w xs (weight_added base names (record { name = a.name; weight = w }) out)
 
-  weighted-named : (w : Float) (xs : List Anchor) → T (all_of active_anchor xs) → T (all_of (named names) (weighted w xs))
-  weighted-named w [] h = tt
-  weighted-named w (a ∷ xs) h = and_i (active_anchor a) (all_of (named names) (weighted w xs)) (and_l (active_anchor a) (all_of active_anchor xs) h) (weighted-named w xs (and_r (active_anchor a) (all_of active_anchor xs) h))
+  weighted_named : (w : Float) (xs : List Anchor) → T (all_of active_anchor xs) → T (all_of (named names) (weighted w xs))
+  weighted_named w [] h = tt
+  weighted_named w (a ∷ xs) h = and_i (active_anchor a) (all_of (named names) (weighted w xs)) (and_l (active_anchor a) (all_of active_anchor xs) h) (weighted_named w xs (and_r (active_anchor a) (all_of active_anchor xs) h))
 
   -- of the first m anchors each names an active channel
-  pub slice-active : (anchors : List Anchor) (m a b : ℕ) → m ≤ length anchors → ((i : ℕ) → i < m → T (active_anchor (get_or anchors i no_anchor))) → b ≤ m → T (all_of active_anchor (slice a b anchors))
-  slice-active anchors m a b long h l =
-      all-at active_anchor no_anchor (slice a b anchors)
+  pub slice_active : (anchors : List Anchor) (m a b : ℕ) → m ≤ length anchors → ((i : ℕ) → i < m → T (active_anchor (get_or anchors i no_anchor))) → b ≤ m → T (all_of active_anchor (slice a b anchors))
+  slice_active anchors m a b long h l =
+      all_at active_anchor no_anchor (slice a b anchors)
       (λ i k.
       let e = length-slice a b anchors (le_trans l long) in
-      rw (get_or-slice a b anchors i no_anchor (omega arith)) (h (a + i) (omega arith)))
+      rw (get_or_slice a b anchors i no_anchor (omega arith)) (h (a + i) (omega arith)))
 
   module _ (anchors : List Anchor) (parts : List ℕ) where
     -- the anchors of coordinate i
     abbrev pub anchors_at : ℕ → List Anchor
     anchors_at i = slice (get_or parts i 0) (get_or parts (i + 1) 0) anchors
 
-    part-added : (base : ℕ) (w : Float) (i : ℕ) (out : List Float) → added_at base w (part_at (map placed anchors) parts i) out ≡ weights_added base names (weighted w (anchors_at i)) out
-    part-added base w i out = ap (λ (ks : List ℕ). added_at base w ks out) (map-slice placed (get_or parts i 0) (get_or parts (i + 1) 0) anchors) ∙ weighted-added base w (anchors_at i) out
+    part_added : (base : ℕ) (w : Float) (i : ℕ) (out : List Float) → added_at base w (part_at (map placed anchors) parts i) out ≡ weights_added base names (weighted w (anchors_at i)) out
+    part_added base w i out = ap (λ (ks : List ℕ). added_at base w ks out) (map_slice placed (get_or parts i 0) (get_or parts (i + 1) 0) anchors) ∙ weighted_added base w (anchors_at i) out
 
     -- a pick among coordinates from a on, whose anchors are ps
     module _ (a n : ℕ) (ps : List (List Anchor)) (are : (i : ℕ) → i < n → get_or ps i [] ≡ anchors_at (a + i)) where
-      pub pick-added : (base : ℕ) (p : Pick) (out : List Float) → pick_end p ≤ n → pick_added base (map placed anchors) parts (shifted a p) out ≡ weights_added base names (weights_of p ps) out
+      pub pick_added_lem : (base : ℕ) (p : Pick) (out : List Float) → pick_end p ≤ n → pick_added base (map placed anchors) parts (shifted a p) out ≡ weights_added base names (weights_of p ps) out
       unfolding pick_added
-      pick-added base (One i) out h = part-added base one64 (a + i) out ∙ rw (are i (omega arith))
-      pick-added base (Two i v w) out h =
-          part-added base w (a + i + 1) (added_at base v (part_at (map placed anchors) parts (a + i)) out)
-          ∙ ap (weights_added base names (weighted w (anchors_at (a + i + 1)))) (part-added base v (a + i) out)
-          ∙ sym (weights-append base names (weighted v (anchors_at (a + i))) (weighted w (anchors_at (a + i + 1))) out)
+      pick_added_lem base (One i) out h = part_added base one64 (a + i) out ∙ rw (are i (omega arith))
+      pick_added_lem base (Two i v w) out h =
+          part_added base w (a + i + 1) (added_at base v (part_at (map placed anchors) parts (a + i)) out)
+          ∙ ap (weights_added base names (weighted w (anchors_at (a + i + 1)))) (part_added base v (a + i) out)
+          ∙ sym (weights_append base names (weighted v (anchors_at (a + i))) (weighted w (anchors_at (a + i + 1))) out)
           ∙ rw (are i (omega arith), are (i + 1) (omega arith), add_assoc a i 1)
 
-      pub pick-named : (p : Pick) → pick_end p ≤ n → ((i : ℕ) → i < n → T (all_of active_anchor (anchors_at (a + i)))) → T (all_of (named names) (weights_of p ps))
-      pick-named (One i) h t = weighted-named one64 (get_or ps i []) (rw (are i (omega arith)) (t i (omega arith)))
-      pick-named (Two i v w) h t =
+      pub pick_named : (p : Pick) → pick_end p ≤ n → ((i : ℕ) → i < n → T (all_of active_anchor (anchors_at (a + i)))) → T (all_of (named names) (weights_of p ps))
+      pick_named (One i) h t = weighted_named one64 (get_or ps i []) (rw (are i (omega arith)) (t i (omega arith)))
+      pick_named (Two i v w) h t =
           all_append (named names) (weighted v (get_or ps i [])) (weighted w (get_or ps (i + 1) []))
-          (weighted-named v (get_or ps i []) (rw (are i (omega arith)) (t i (omega arith))))
-          (weighted-named w (get_or ps (i + 1) []) (rw (are (i + 1) (omega arith)) (t (i + 1) (omega arith))))
+          (weighted_named v (get_or ps i []) (rw (are i (omega arith)) (t i (omega arith))))
+          (weighted_named w (get_or ps (i + 1) []) (rw (are (i + 1) (omega arith)) (t (i + 1) (omega arith))))
 
     -- ---- group after group: P g has the anchors of each coordinate of group g
     module _
@@ -132,27 +132,27 @@ module _ (names : List ℕ) where
         abbrev pub group_weights : ℕ → List Weight
         group_weights g = weights_of (pick_of (group_of g) u) (P g)
 
-        group-end : (g : ℕ) → g < count → pick_end (pick_of (group_of g) u) ≤ get_or groups (g + 1) 0 - get_or groups g 0
-        group-end g h =
+        group_end : (g : ℕ) → g < count → pick_end (pick_of (group_of g) u) ≤ get_or groups (g + 1) 0 - get_or groups g 0
+        group_end g h =
             let a = get_or groups g 0 in
             let b = get_or groups (g + 1) 0 in
             let some = k.some g h in
-            let long = group-within (map placed anchors) parts v groups count u t k g h in
-            let e = pick_end_lem (group_of g) u (part-some v a b u some long) t (rw (part-first v a b u some long) (group-first (map placed anchors) parts v groups count u t k g h)) in
+            let long = group_within (map placed anchors) parts v groups count u t k g h in
+            let e = pick_end_lem (group_of g) u (part_some v a b u some long) t (rw (part_first v a b u some long) (group_first (map placed anchors) parts v groups count u t k g h)) in
             le_trans e (le_of_eq (part_length v a b u some long))
 
-        group-added : (base g : ℕ) (out : List Float) → g < count → pick_added base (map placed anchors) parts (group_pick v groups u g) out ≡ weights_added base names (group_weights g) out
+        group_added : (base g : ℕ) (out : List Float) → g < count → pick_added base (map placed anchors) parts (group_pick v groups u g) out ≡ weights_added base names (group_weights g) out
         unfolding group_pick
-        group-added base g out h = pick-added (get_or groups g 0) (get_or groups (g + 1) 0 - get_or groups g 0) (P g) (are g h) base (pick_of (group_of g) u) out (group-end g h)
+        group_added base g out h = pick_added_lem (get_or groups g 0) (get_or groups (g + 1) 0 - get_or groups g 0) (P g) (are g h) base (pick_of (group_of g) u) out (group_end g h)
 
-        pub groups-added : (base n : ℕ) (out : List Float) → n ≤ count → response_added base (map placed anchors) parts v groups n u out ≡ weights_added base names (gathered group_weights n) out
-        groups-added base zero out h = response-none (map placed anchors) parts v groups base u out
-        groups-added base (suc n) out h =
+        pub groups_added : (base n : ℕ) (out : List Float) → n ≤ count → response_added base (map placed anchors) parts v groups n u out ≡ weights_added base names (gathered group_weights n) out
+        groups_added base zero out h = response_none (map placed anchors) parts v groups base u out
+        groups_added base (suc n) out h =
             ap (λ (m : ℕ). response_added base (map placed anchors) parts v groups m u out) (sym (add-one n))
-            ∙ response-more (map placed anchors) parts v groups base u out n
-            ∙ group-added base n (response_added base (map placed anchors) parts v groups n u out) h
-            ∙ ap (weights_added base names (group_weights n)) (groups-added base n out (omega arith))
-            ∙ sym (weights-append base names (gathered group_weights n) (group_weights n) out)
+            ∙ response_more (map placed anchors) parts v groups base u out n
+            ∙ group_added base n (response_added base (map placed anchors) parts v groups n u out) h
+            ∙ ap (weights_added base names (group_weights n)) (groups_added base n out (omega arith))
+            ∙ sym (weights_append base names (gathered group_weights n) (group_weights n) out)
 
-        pub groups-named : ((g : ℕ) → g < count → (i : ℕ) → i < get_or groups (g + 1) 0 - get_or groups g 0 → T (all_of active_anchor (anchors_at (get_or groups g 0 + i)))) → T (all_of (named names) (gathered group_weights count))
-        groups-named h = gathered-all (named names) group_weights count (λ g l. pick-named (get_or groups g 0) (get_or groups (g + 1) 0 - get_or groups g 0) (P g) (are g l) (pick_of (group_of g) u) (group-end g l) (h g l))
+        pub groups_named : ((g : ℕ) → g < count → (i : ℕ) → i < get_or groups (g + 1) 0 - get_or groups g 0 → T (all_of active_anchor (anchors_at (get_or groups g 0 + i)))) → T (all_of (named names) (gathered group_weights count))
+        groups_named h = gathered_all (named names) group_weights count (λ g l. pick_named (get_or groups g 0) (get_or groups (g + 1) 0 - get_or groups g 0) (P g) (are g l) (pick_of (group_of g) u) (group_end g l) (h g l))

@@ -13,12 +13,12 @@ use lib.ListN.{length, get_or, set, length-set}
 use lib.Seq.{get_or-set_same, get_or-set_other}
 use Rattle.field.specs.Tables.{sampled_over}
 use Rattle.field.specs.Steps.Columns.{pattern_at, same_from, same_column, first_from, first_same, Firsts}
-use Rattle.field.proofs.Tables.{sampled-cong}
+use Rattle.field.proofs.Tables.{sampled_cong}
 
 -- ---- a turn of each loop
-pub same-done : (r : List Float) (j k s c : ℕ) → c ≤ s → same_from r j k s (c - s) ≡ true
+pub same_done : (r : List Float) (j k s c : ℕ) → c ≤ s → same_from r j k s (c - s) ≡ true
 unfolding same_from
-same-done r j k s c h =
+same_done r j k s c h =
     let e : c - s ≡ 0 = omega arith in
     rw e
 
@@ -41,8 +41,8 @@ first_more r c k j h =
     rw e
 
 -- ---- what is found
-pub firsts-none : (r : List Float) (c : ℕ) (firsts : List ℕ) → Firsts r c 0 firsts
-firsts-none r c firsts = record { size = zero-le; values = λ k h. absurd (not-suc-le-zero h) }
+pub firsts_none : (r : List Float) (c : ℕ) (firsts : List ℕ) → Firsts r c 0 firsts
+firsts_none r c firsts = record { size = zero-le; values = λ k h. absurd (not-suc-le-zero h) }
 
 pub firsts_more : (r : List Float) (c m : ℕ) (firsts : List ℕ) → m < length firsts → Firsts r c m firsts → Firsts r c (m + 1) (set firsts m (first_same r c m))
 firsts_more r c m firsts l h = record { size = rw length-set (omega arith); values = λ k b. at k b (ltb k m) refl }
@@ -57,10 +57,10 @@ firsts_more r c m firsts l h = record { size = rw length-set (omega arith); valu
         rw q (get_or-set_same firsts m (first_same r c m) 0 l)
 
 -- what equal columns say at a sample
-same-says : (r : List Float) (j k s left t : ℕ) → same_from r j k s left ≡ true → s ≤ t → t < s + left → pattern_at r t j ≡ pattern_at r t k
+same_says : (r : List Float) (j k s left t : ℕ) → same_from r j k s left ≡ true → s ≤ t → t < s + left → pattern_at r t j ≡ pattern_at r t k
 unfolding same_from
-same-says r j k s zero t h a b = absurd (omega arith)
-same-says r j k s (suc left) t h a b = at (same-says r j k (s + 1) left t p.1) (ltb s t) refl
+same_says r j k s zero t h a b = absurd (omega arith)
+same_says r j k s (suc left) t h a b = at (same_says r j k (s + 1) left t p.1) (ltb s t) refl
   where
     both : (x y : Bool) → cond x y false ≡ true → (x ≡ true) × (y ≡ true)
     both true y e = (refl, e)
@@ -79,10 +79,10 @@ same-says r j k s (suc left) t h a b = at (same-says r j k (s + 1) left t p.1) (
         rw u (eqb-true (pattern_at r s j) (pattern_at r s k) p.0)
 
 -- equal patterns of doubles are equal doubles
-same-column : (r : List Float) (c j k : ℕ) → ((i : ℕ) → T (fits binary64 (get_or r i nan))) → same_column r c j k ≡ true → (s : ℕ) → s < c → get_or r (s * 24 + j) nan ≡ get_or r (s * 24 + k) nan
-same-column r c j k f h s l =
+same_column_lem : (r : List Float) (c j k : ℕ) → ((i : ℕ) → T (fits binary64 (get_or r i nan))) → same_column r c j k ≡ true → (s : ℕ) → s < c → get_or r (s * 24 + j) nan ≡ get_or r (s * 24 + k) nan
+same_column_lem r c j k f h s l =
     sym (of_bits-to_bits binary64 (get_or r (s * 24 + j) nan) (f (s * 24 + j)))
-    ∙ ap (of_bits binary64) (same-says r j k 0 c s h zero-le l')
+    ∙ ap (of_bits binary64) (same_says r j k 0 c s h zero-le l')
     ∙ of_bits-to_bits binary64 (get_or r (s * 24 + k) nan) (f (s * 24 + k))
   where
     l' : s < 0 + c
@@ -102,10 +102,10 @@ first_says r c k j (suc left) h = at (first_says r c k (j + 1) left (omega arith
     at later false e = later
 
 -- channel k has the number of the first channel with its column
-pub first-number : (r : List Float) (c n k : ℕ) (firsts : List ℕ) (K : ℕ → Float) (e : Float) → ((i : ℕ) → T (fits binary64 (get_or r i nan))) → Firsts r c n firsts → k < n → get_or firsts k 0 < k → sampled_over K (λ (s : ℕ). get_or r (s * 24 + get_or firsts k 0) nan) e c ≡ sampled_over K (λ (s : ℕ). get_or r (s * 24 + k) nan) e c
-first-number r c n k firsts K e f h l b =
+pub first_number : (r : List Float) (c n k : ℕ) (firsts : List ℕ) (K : ℕ → Float) (e : Float) → ((i : ℕ) → T (fits binary64 (get_or r i nan))) → Firsts r c n firsts → k < n → get_or firsts k 0 < k → sampled_over K (λ (s : ℕ). get_or r (s * 24 + get_or firsts k 0) nan) e c ≡ sampled_over K (λ (s : ℕ). get_or r (s * 24 + k) nan) e c
+first_number r c n k firsts K e f h l b =
     let q : get_or firsts k 0 ≡ first_same r c k = h.values k l in
     let b' : first_same r c k < k = rw (← q) b in
     rw q
-    (sampled-cong K K (λ (s : ℕ). get_or r (s * 24 + first_same r c k) nan) (λ (s : ℕ). get_or r (s * 24 + k) nan) e c (λ (s : ℕ) (m : s < c). refl)
-    (same-column r c (first_same r c k) k f ((first_says r c k 0 k (omega arith)).1 b')))
+    (sampled_cong K K (λ (s : ℕ). get_or r (s * 24 + first_same r c k) nan) (λ (s : ℕ). get_or r (s * 24 + k) nan) e c (λ (s : ℕ) (m : s < c). refl)
+    (same_column_lem r c (first_same r c k) k f ((first_says r c k 0 k (omega arith)).1 b')))

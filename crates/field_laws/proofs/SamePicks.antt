@@ -20,19 +20,19 @@ use Rattle.field.specs.declared.Pick.{Pick}
 use Rattle.field.specs.declared.Pick.TheVariants.{One}
 use Rattle.field.specs.Responses.{two_at, count_below, pair_at, pick_of, layer_pick}
 use Rattle.field.proofs.ResponseOrder.{lt_of_not_le}
-use Rattle.doubles.proofs.Alike.{Alike, same, lt_same, le_same, same-le, sub_same}
-use Rattle.field_laws.proofs.SameTopologies.{Each, end, next, each-length}
+use Rattle.doubles.proofs.Alike.{Alike, same, lt_same, le_same, same_le, sub_same}
+use Rattle.field_laws.proofs.SameTopologies.{Each, end, next, each_length}
 
 module _ (u : Float) where
   -- as many are below u
-  below-same : {xs ys : List Float} → Each Alike xs ys → count_below u xs ≡ count_below u ys
-  below-same end = refl
-  below-same (next {x = x} {y = y} {xs = xs} {ys = ys} w e) = ap₂ (λ (b : Bool) (n : ℕ). cond b (1 + n) 0) (lt_same x y w u) (below-same e)
+  below_same : {xs ys : List Float} → Each Alike xs ys → count_below u xs ≡ count_below u ys
+  below_same end = refl
+  below_same (next {x = x} {y = y} {xs = xs} {ys = ys} w e) = ap₂ (λ (b : Bool) (n : ℕ). cond b (1 + n) 0) (lt_same x y w u) (below_same e)
 
   -- the last of x and xs is as far from u
-  last-same : (x y : Float) {xs ys : List Float} → Alike x y → Each Alike xs ys → le (get_or (x ∷ xs) (length xs) nan) u ≡ le (get_or (y ∷ ys) (length ys) nan) u
-  last-same x y w end = le_same x y w u
-  last-same x y w (next {x = p} {y = q} v e) = last-same p q v e
+  last_same : (x y : Float) {xs ys : List Float} → Alike x y → Each Alike xs ys → le (get_or (x ∷ xs) (length xs) nan) u ≡ le (get_or (y ∷ ys) (length ys) nan) u
+  last_same x y w end = le_same x y w u
+  last_same x y w (next {x = p} {y = q} v e) = last_same p q v e
 
   -- where u stands between coordinate n of x ∷ xs, which is below it, and the next
   abbrev ratio : Float → List Float → ℕ → Float
@@ -42,10 +42,10 @@ module _ (u : Float) where
   unfolding sub add
   past x y = refl
 
-  ratio-same : (x y : Float) {xs ys : List Float} → Alike x y → Each Alike xs ys → T (chain_from lt x xs) → lt x u ≡ true → ratio x xs (count_below u xs) ≡ ratio y ys (count_below u ys)
-  ratio-same x y w end c l = ap₂ ◌⊘◌ (sub_same u u x y (same u) w (rw l tt)) (past x y)
-  ratio-same x y w (next {x = p} {y = q} {xs = xs} {ys = ys} v e) c l =
-      rw (← lt_same p q v u) (go (lt p u) refl (ratio-same p q v e))
+  ratio_same : (x y : Float) {xs ys : List Float} → Alike x y → Each Alike xs ys → T (chain_from lt x xs) → lt x u ≡ true → ratio x xs (count_below u xs) ≡ ratio y ys (count_below u ys)
+  ratio_same x y w end c l = ap₂ ◌⊘◌ (sub_same u u x y (same u) w (rw l tt)) (past x y)
+  ratio_same x y w (next {x = p} {y = q} {xs = xs} {ys = ys} v e) c l =
+      rw (← lt_same p q v u) (go (lt p u) refl (ratio_same p q v e))
     where
       h : T (lt x p) × T (chain_from lt p xs)
       h = and_yes (lt x p) (chain_from lt p xs) c
@@ -55,29 +55,29 @@ module _ (u : Float) where
       go false g r = ap₂ ◌⊘◌ (sub_same u u x y (same u) w (rw l tt)) (sub_same p q x y v w h.0)
 
 -- ---- the picks
-pair-first : (u x : Float) (xs : List Float) → lt x u ≡ true → pair_at (x ∷ xs) u (count_below u (x ∷ xs)) ≡ two_at (count_below u xs) (ratio u x xs (count_below u xs))
-pair-first u x xs l =
+pair_first : (u x : Float) (xs : List Float) → lt x u ≡ true → pair_at (x ∷ xs) u (count_below u (x ∷ xs)) ≡ two_at (count_below u xs) (ratio u x xs (count_below u xs))
+pair_first u x xs l =
     let n = count_below u xs in
     let e : 1 + n - 1 ≡ n = omega arith in
     rw (l, e, one-add)
 
 pair_same : (u x y : Float) {xs ys : List Float} → Alike x y → Each Alike xs ys → T (chain_from lt x xs) → lt x u ≡ true → pair_at (x ∷ xs) u (count_below u (x ∷ xs)) ≡ pair_at (y ∷ ys) u (count_below u (y ∷ ys))
 pair_same u x y {xs} {ys} w e c l =
-    pair-first u x xs l
-    ∙ ap₂ two_at (below-same u e) (ratio-same u x y w e c l)
-    ∙ sym (pair-first u y ys (sym (lt_same x y w u) ∙ l))
+    pair_first u x xs l
+    ∙ ap₂ two_at (below_same u e) (ratio_same u x y w e c l)
+    ∙ sym (pair_first u y ys (sym (lt_same x y w u) ∙ l))
 
-pick-form : (u x : Float) (xs : List Float) → pick_of (x ∷ xs) u ≡ cond (le u x) (One 0) (cond (le (get_or (x ∷ xs) (length xs) nan) u) (One (length xs)) (pair_at (x ∷ xs) u (count_below u (x ∷ xs))))
+pick_form : (u x : Float) (xs : List Float) → pick_of (x ∷ xs) u ≡ cond (le u x) (One 0) (cond (le (get_or (x ∷ xs) (length xs) nan) u) (One (length xs)) (pair_at (x ∷ xs) u (count_below u (x ∷ xs))))
 unfolding pick_of
-pick-form u x xs = let e : suc (length xs) - 1 ≡ length xs = omega arith in rw e
+pick_form u x xs = let e : suc (length xs) - 1 ≡ length xs = omega arith in rw e
 
 pub pick_same : (u : Float) → T (finite u) → {xs ys : List Float} → Each Alike xs ys → T (ordered xs) → pick_of xs u ≡ pick_of ys u
 pick_same u f end o = refl
 pick_same u f (next {x = x} {y = y} {xs = xs} {ys = ys} w e) o =
-    pick-form u x xs
+    pick_form u x xs
     ∙ go (le u x) refl
-    ∙ ap (λ (b : Bool). cond b (One 0) (cond (le (get_or (y ∷ ys) (length ys) nan) u) (One (length ys)) (pair_at (y ∷ ys) u (count_below u (y ∷ ys))))) (same-le x y w u)
-    ∙ sym (pick-form u y ys)
+    ∙ ap (λ (b : Bool). cond b (One 0) (cond (le (get_or (y ∷ ys) (length ys) nan) u) (One (length ys)) (pair_at (y ∷ ys) u (count_below u (y ∷ ys))))) (same_le x y w u)
+    ∙ sym (pick_form u y ys)
   where
     p : T (all_of in_room (x ∷ xs)) × T (chain_from lt x xs)
     p = and_yes (all_of in_room (x ∷ xs)) (chain_from lt x xs) o
@@ -87,11 +87,11 @@ pick_same u f (next {x = x} {y = y} {xs = xs} {ys = ys} w e) o =
 
     go : (b : Bool) → le u x ≡ b → cond b (One 0) (cond (le (get_or (x ∷ xs) (length xs) nan) u) (One (length xs)) (pair_at (x ∷ xs) u (count_below u (x ∷ xs)))) ≡ cond b (One 0) (cond (le (get_or (y ∷ ys) (length ys) nan) u) (One (length ys)) (pair_at (y ∷ ys) u (count_below u (y ∷ ys))))
     go true g = refl
-    go false g = rw (last-same u x y w e, each-length e, pair_same u x y w e p.1 (lt_of_not_le u x f t g))
+    go false g = rw (last_same u x y w e, each_length e, pair_same u x y w e p.1 (lt_of_not_le u x f t g))
 
 -- with two layers no height is read
-pub layer-pick-same : (u : Float) → T (finite u) → {xs ys : List Float} → Each Alike xs ys → T (ordered xs) → layer_pick xs u ≡ layer_pick ys u
+pub layer_pick_same : (u : Float) → T (finite u) → {xs ys : List Float} → Each Alike xs ys → T (ordered xs) → layer_pick xs u ≡ layer_pick ys u
 unfolding layer_pick
-layer-pick-same u f e o =
+layer_pick_same u f e o =
     ap₂ (λ (n : ℕ) (p : Pick). cond (eqb n 2) (cond (le u zero64) (One 0) (cond (le (from_int (pos 32767)) (floor_of binary64 (from_int (pos 32768) ⊗ u))) (One 1) (two_at 0 u))) p)
-    (each-length e) (pick_same u f e o)
+    (each_length e) (pick_same u f e o)

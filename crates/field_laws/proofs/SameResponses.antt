@@ -19,7 +19,7 @@ use Rattle.field.specs.Knots.{Axis, X, Y, Z}
 use Rattle.field.specs.Responses.{Weight, weighted, weights_of, alone, row_anchors, layer_anchors, row_weights_x, layer_weights_x, layer_weights_y, weights_on, added_up, response_on}
 use Rattle.doubles.proofs.Alike.{Alike}
 use Rattle.field_laws.proofs.SameTopologies.{Each, end, next, each_map, AnchorAlike, RowAlike, LayerAlike, TopologyAlike}
-use Rattle.field_laws.proofs.SamePicks.{pick_same, layer-pick-same}
+use Rattle.field_laws.proofs.SamePicks.{pick_same, layer_pick_same}
 
 -- ---- lists of parts
 module _ {A B : Type 0} {R : A → B → Type 0} where
@@ -27,9 +27,9 @@ module _ {A B : Type 0} {R : A → B → Type 0} where
   each_append end e = e
   each_append (next w d) e = next w (each_append d e)
 
-  each-concat : {xss : List (List A)} {yss : List (List B)} → Each (Each R) xss yss → Each R (flatten xss) (flatten yss)
-  each-concat end = end
-  each-concat (next w e) = each_append w (each-concat e)
+  each_concat : {xss : List (List A)} {yss : List (List B)} → Each (Each R) xss yss → Each R (flatten xss) (flatten yss)
+  each_concat end = end
+  each_concat (next w e) = each_append w (each_concat e)
 
   -- part i, and none past the last
   each_part : (i : ℕ) {xss : List (List A)} {yss : List (List B)} → Each (Each R) xss yss → Each R (get_or xss i []) (get_or yss i [])
@@ -45,57 +45,57 @@ each_same q f h (next {x = x} {y = y} {xs = xs} w e) t =
     ap₂ ◌++◌ (h x y w p.0) (each_same q f h e p.1)
 
 -- ---- the weights of a pick
-weighted-same : (w : Float) {xs ys : List Anchor} → Each AnchorAlike xs ys → weighted w xs ≡ weighted w ys
-weighted-same w end = refl
-weighted-same w (next v e) = ap₂ (λ (n : ℕ) (r : List Weight). record { name = n; weight = w } ∷ r) v.0 (weighted-same w e)
+weighted_same : (w : Float) {xs ys : List Anchor} → Each AnchorAlike xs ys → weighted w xs ≡ weighted w ys
+weighted_same w end = refl
+weighted_same w (next v e) = ap₂ (λ (n : ℕ) (r : List Weight). record { name = n; weight = w } ∷ r) v.0 (weighted_same w e)
 
 spread_same : (p : Pick) {xss yss : List (List Anchor)} → Each (Each AnchorAlike) xss yss → weights_of p xss ≡ weights_of p yss
-spread_same (One i) e = weighted-same one64 (each_part i e)
-spread_same (Two i v w) e = ap₂ ◌++◌ (weighted-same v (each_part i e)) (weighted-same w (each_part (i + 1) e))
+spread_same (One i) e = weighted_same one64 (each_part i e)
+spread_same (Two i v w) e = ap₂ ◌++◌ (weighted_same v (each_part i e)) (weighted_same w (each_part (i + 1) e))
 
 picked : {p q : Pick} {xss yss : List (List Anchor)} → p ≡ q → Each (Each AnchorAlike) xss yss → weights_of p xss ≡ weights_of q yss
 picked {q = q} {xss = xss} g e = ap (λ (r : Pick). weights_of r xss) g ∙ spread_same q e
 
 -- ---- the parts of topologies that are alike
-xs-alike : {as' bs : List Anchor} → Each AnchorAlike as' bs → Each Alike (map anchor_x as') (map anchor_x bs)
-xs-alike = each_map anchor_x anchor_x (λ x y w. w.1)
+xs_alike : {as' bs : List Anchor} → Each AnchorAlike as' bs → Each Alike (map anchor_x as') (map anchor_x bs)
+xs_alike = each_map anchor_x anchor_x (λ x y w. w.1)
 
-ys-alike : {rs ss : List TopologyRow} → Each RowAlike rs ss → Each Alike (map topology_y rs) (map topology_y ss)
-ys-alike = each_map topology_y topology_y (λ x y w. w.0)
+ys_alike : {rs ss : List TopologyRow} → Each RowAlike rs ss → Each Alike (map topology_y rs) (map topology_y ss)
+ys_alike = each_map topology_y topology_y (λ x y w. w.0)
 
-zs-alike : {ls ms : List TopologyLayer} → TopologyAlike ls ms → Each Alike (map topology_z ls) (map topology_z ms)
-zs-alike = each_map topology_z topology_z (λ x y w. w.0)
+zs_alike : {ls ms : List TopologyLayer} → TopologyAlike ls ms → Each Alike (map topology_z ls) (map topology_z ms)
+zs_alike = each_map topology_z topology_z (λ x y w. w.0)
 
-alone-alike : {as' bs : List Anchor} → Each AnchorAlike as' bs → Each (Each AnchorAlike) (map alone as') (map alone bs)
-alone-alike = each_map alone alone (λ x y w. next w end)
+alone_alike : {as' bs : List Anchor} → Each AnchorAlike as' bs → Each (Each AnchorAlike) (map alone as') (map alone bs)
+alone_alike = each_map alone alone (λ x y w. next w end)
 
 rows_alike : {rs ss : List TopologyRow} → Each RowAlike rs ss → Each (Each AnchorAlike) (map row_anchors rs) (map row_anchors ss)
 rows_alike = each_map row_anchors row_anchors (λ x y w. w.1)
 
-layers-alike : {ls ms : List TopologyLayer} → TopologyAlike ls ms → Each (Each AnchorAlike) (map layer_anchors ls) (map layer_anchors ms)
-layers-alike = each_map layer_anchors layer_anchors (λ x y w. each-concat (rows_alike w.1))
+layers_alike : {ls ms : List TopologyLayer} → TopologyAlike ls ms → Each (Each AnchorAlike) (map layer_anchors ls) (map layer_anchors ms)
+layers_alike = each_map layer_anchors layer_anchors (λ x y w. each_concat (rows_alike w.1))
 
 -- ---- the weights
 module _ (u : Float) (f : T (finite u)) where
   row_same : (r s : TopologyRow) → RowAlike r s → T (ordered_row r) → row_weights_x u r ≡ row_weights_x u s
   unfolding row_weights_x
-  row_same r s w o = picked (pick_same u f (xs-alike w.1) o) (alone-alike w.1)
+  row_same r s w o = picked (pick_same u f (xs_alike w.1) o) (alone_alike w.1)
 
-  layer-same-x : (l m : TopologyLayer) → LayerAlike l m → T (ordered_layer l) → layer_weights_x u l ≡ layer_weights_x u m
+  layer_same_x : (l m : TopologyLayer) → LayerAlike l m → T (ordered_layer l) → layer_weights_x u l ≡ layer_weights_x u m
   unfolding layer_weights_x
-  layer-same-x l m w o = each_same ordered_row (row_weights_x u) row_same w.1 (and_yes (ordered (map topology_y l.rows)) (all_of ordered_row l.rows) o).1
+  layer_same_x l m w o = each_same ordered_row (row_weights_x u) row_same w.1 (and_yes (ordered (map topology_y l.rows)) (all_of ordered_row l.rows) o).1
 
-  layer-same-y : (l m : TopologyLayer) → LayerAlike l m → T (ordered_layer l) → layer_weights_y u l ≡ layer_weights_y u m
+  layer_same_y : (l m : TopologyLayer) → LayerAlike l m → T (ordered_layer l) → layer_weights_y u l ≡ layer_weights_y u m
   unfolding layer_weights_y
-  layer-same-y l m w o = picked (pick_same u f (ys-alike w.1) (and_yes (ordered (map topology_y l.rows)) (all_of ordered_row l.rows) o).0) (rows_alike w.1)
+  layer_same_y l m w o = picked (pick_same u f (ys_alike w.1) (and_yes (ordered (map topology_y l.rows)) (all_of ordered_row l.rows) o).0) (rows_alike w.1)
 
   module _ (t v : List TopologyLayer) (w : TopologyAlike t v) (oz : T (ordered (map topology_z t))) (ol : T (all_of ordered_layer t)) where
-    weights-same : (a : Axis) → weights_on a t u ≡ weights_on a v u
+    weights_same : (a : Axis) → weights_on a t u ≡ weights_on a v u
     unfolding weights_on
-    weights-same X = each_same ordered_layer (layer_weights_x u) layer-same-x w ol
-    weights-same Y = each_same ordered_layer (layer_weights_y u) layer-same-y w ol
-    weights-same Z = picked (layer-pick-same u f (zs-alike w) oz) (layers-alike w)
+    weights_same X = each_same ordered_layer (layer_weights_x u) layer_same_x w ol
+    weights_same Y = each_same ordered_layer (layer_weights_y u) layer_same_y w ol
+    weights_same Z = picked (layer_pick_same u f (zs_alike w) oz) (layers_alike w)
 
-    pub response-same : (a : Axis) (name : ℕ) → response_on a t u name ≡ response_on a v u name
+    pub response_same : (a : Axis) (name : ℕ) → response_on a t u name ≡ response_on a v u name
     unfolding response_on
-    response-same a name = ap (added_up zero64 name) (weights-same a)
+    response_same a name = ap (added_up zero64 name) (weights_same a)

@@ -10,52 +10,52 @@ use Rattle.doubles.specs.Arithmetic.{◌⊘◌, zero64}
 use Rattle.approximations.specs.Exp2.{exp2_of}
 use Rattle.approximations.specs.Log2.{log2_of}
 use Rattle.doubles.proofs.Signs.{clear}
-use Rattle.doubles.proofs.Laws.{mul-fits, div-fits, mul-clear}
-use Rattle.approximations.proofs.Laws.{exp2-clear}
+use Rattle.doubles.proofs.Laws.{mul-fits, div-fits, mul_clear}
+use Rattle.approximations.proofs.Laws.{exp2_clear}
 use Rattle.layout.specs.declared.Centre.{Centre}
 use Rattle.field.specs.Knots.{X, Y, Z}
 use Rattle.gains.specs.Lookup.{centre_knots, radius_knots, bracket_of}
 use Rattle.gains.specs.Diffuse.{Rows, response_x, response_y, response_z, weight_of, compensated_of, diffuse_of}
-use Rattle.extent.proofs.Shaping.{exp2-fits}
-use Rattle.gains.proofs.Lookups.{placed-X, placed-Y, placed-Z, placed-radius, lookup-clear}
+use Rattle.extent.proofs.Shaping.{exp2_fits}
+use Rattle.gains.proofs.Lookups.{placed_X, placed_Y, placed_Z, placed_radius, lookup_clear}
 use Rattle.gains.proofs.diffuse.Cases.{field}
-use Rattle.gains.proofs.diffuse.Field.{inside, near, diffuse-by}
+use Rattle.gains.proofs.diffuse.Field.{inside, near, diffuse_by}
 
-clear-by : (b : Bool) (x y : Float) → T (clear x) → T (clear y) → T (clear (cond b x y))
-clear-by true x y p q = p
-clear-by false x y p q = q
+clear_by : (b : Bool) (x y : Float) → T (clear x) → T (clear y) → T (clear (cond b x y))
+clear_by true x y p q = p
+clear_by false x y p q = q
 
 -- ---- a channel near a wall, whatever the numbers
-pub compensated-clear : (i p l e : Float) → T (clear (compensated_of i p l e))
+pub compensated_clear : (i p l e : Float) → T (clear (compensated_of i p l e))
 unfolding compensated_of
-compensated-clear i p l e =
+compensated_clear i p l e =
     let v = log2_of (field i p l e) ⊘ e in
-    clear-by (lt zero64 (field i p l e)) (exp2_of v) zero64 (exp2-clear v (div-fits (log2_of (field i p l e)) e)) tt
+    clear_by (lt zero64 (field i p l e)) (exp2_of v) zero64 (exp2_clear v (div-fits (log2_of (field i p l e)) e)) tt
 
-pub compensated-fits : (i p l e : Float) → T (fits binary64 (compensated_of i p l e))
+pub compensated_fits : (i p l e : Float) → T (fits binary64 (compensated_of i p l e))
 unfolding compensated_of fits
-compensated-fits i p l e =
+compensated_fits i p l e =
     let v = log2_of (field i p l e) ⊘ e in
-    cond-fits binary64 (lt zero64 (field i p l e)) (exp2_of v) zero64 (exp2-fits v) tt
+    cond-fits binary64 (lt zero64 (field i p l e)) (exp2_of v) zero64 (exp2_fits v) tt
 
 -- ---- the diffuse field
 module _ (f : Rows) (deep : Bool) (c : Centre) (r : Float) where
-  at-weight : Bool
-  at-weight = eq (weight_of c deep r) zero64
+  at_weight : Bool
+  at_weight = eq (weight_of c deep r) zero64
 
   -- it is a double
-  pub diffuse-fits : T (fits binary64 (diffuse_of f deep c r))
-  unfolding at-weight
-  diffuse-fits =
-      subst (λ (x : Float). T (fits binary64 x)) (sym (diffuse-by f deep c r at-weight refl))
-      (cond-fits binary64 at-weight (inside f deep c r) (near f deep c r) (mul-fits _ _) (compensated-fits _ _ _ _))
+  pub diffuse_fits : T (fits binary64 (diffuse_of f deep c r))
+  unfolding at_weight
+  diffuse_fits =
+      subst (λ (x : Float). T (fits binary64 x)) (sym (diffuse_by f deep c r at_weight refl))
+      (cond-fits binary64 at_weight (inside f deep c r) (near f deep c r) (mul-fits _ _) (compensated_fits _ _ _ _))
 
   -- it is clear where the three responses are
-  diffuse-clear-by : T (clear (response_x f c r)) → T (clear (response_y f c r)) → T (clear (response_z f deep c r)) → T (clear (diffuse_of f deep c r))
-  unfolding at-weight
-  diffuse-clear-by p q s =
-      subst (λ (x : Float). T (clear x)) (sym (diffuse-by f deep c r at-weight refl))
-      (clear-by at-weight (inside f deep c r) (near f deep c r) (mul-clear _ _ (mul-clear _ _ p q) s) (compensated-clear _ _ _ _))
+  diffuse_clear_by : T (clear (response_x f c r)) → T (clear (response_y f c r)) → T (clear (response_z f deep c r)) → T (clear (diffuse_of f deep c r))
+  unfolding at_weight
+  diffuse_clear_by p q s =
+      subst (λ (x : Float). T (clear x)) (sym (diffuse_by f deep c r at_weight refl))
+      (clear_by at_weight (inside f deep c r) (near f deep c r) (mul_clear _ _ (mul_clear _ _ p q) s) (compensated_clear _ _ _ _))
 
 -- ---- clear tables
 
@@ -70,36 +70,36 @@ CentreFits c = T (fits binary64 c.x) × T (fits binary64 c.y) × T (fits binary6
 abbrev pub Good : Float → Type 0
 Good x = T (clear x) × T (fits binary64 x)
 
-tables-XY : (deep : Bool) → 1400 ≤ table_rows deep
-tables-XY true = omega arith
-tables-XY false = omega arith
+tables_XY : (deep : Bool) → 1400 ≤ table_rows deep
+tables_XY true = omega arith
+tables_XY false = omega arith
 
 module _ (f : Rows) (c : Centre) (r : Float) (h : CentreFits c) (k : T (fits binary64 r)) where
-  clear-X : ((i : ℕ) → i < 1400 → Good (f i)) → T (clear (response_x f c r))
+  clear_X : ((i : ℕ) → i < 1400 → Good (f i)) → T (clear (response_x f c r))
   unfolding response_x
-  clear-X g =
-      lookup-clear 34 c.x r (bracket_of (centre_knots X) c.x) (bracket_of radius_knots r) (placed-X c.x h.0) (placed-radius r k) f
+  clear_X g =
+      lookup_clear 34 c.x r (bracket_of (centre_knots X) c.x) (bracket_of radius_knots r) (placed_X c.x h.0) (placed_radius r k) f
       (λ (i : ℕ) (l : i < 700). (g i (omega arith)).0)
       (λ (i : ℕ) (l : i < 700). (g i (omega arith)).1)
 
-  clear-Y : ((i : ℕ) → i < 1400 → Good (f i)) → T (clear (response_y f c r))
+  clear_Y : ((i : ℕ) → i < 1400 → Good (f i)) → T (clear (response_y f c r))
   unfolding response_y
-  clear-Y g =
-      lookup-clear 34 c.y r (bracket_of (centre_knots Y) c.y) (bracket_of radius_knots r) (placed-Y c.y h.1) (placed-radius r k) (λ (i : ℕ). f (700 + i))
+  clear_Y g =
+      lookup_clear 34 c.y r (bracket_of (centre_knots Y) c.y) (bracket_of radius_knots r) (placed_Y c.y h.1) (placed_radius r k) (λ (i : ℕ). f (700 + i))
       (λ (i : ℕ) (l : i < 700). (g (700 + i) (omega arith)).0)
       (λ (i : ℕ) (l : i < 700). (g (700 + i) (omega arith)).1)
 
-  clear-Z : (deep : Bool) → ((i : ℕ) → i < table_rows deep → Good (f i)) → T (clear (response_z f deep c r))
+  clear_Z : (deep : Bool) → ((i : ℕ) → i < table_rows deep → Good (f i)) → T (clear (response_z f deep c r))
   unfolding response_z
-  clear-Z true g =
-      lookup-clear 3 c.z r (bracket_of (centre_knots Z) c.z) (bracket_of radius_knots r) (placed-Z c.z h.2) (placed-radius r k) (λ (i : ℕ). f (1400 + i))
+  clear_Z true g =
+      lookup_clear 3 c.z r (bracket_of (centre_knots Z) c.z) (bracket_of radius_knots r) (placed_Z c.z h.2) (placed_radius r k) (λ (i : ℕ). f (1400 + i))
       (λ (i : ℕ) (l : i < 80). (g (1400 + i) (omega arith)).0)
       (λ (i : ℕ) (l : i < 80). (g (1400 + i) (omega arith)).1)
-  clear-Z false g = tt
+  clear_Z false g = tt
 
   -- over tables of clear doubles the field is clear, for any centre and radius that are doubles
-  pub diffuse-clear : (deep : Bool) → ((i : ℕ) → i < table_rows deep → Good (f i)) → T (clear (diffuse_of f deep c r))
-  diffuse-clear deep g =
-      let t = tables-XY deep in
+  pub diffuse_clear : (deep : Bool) → ((i : ℕ) → i < table_rows deep → Good (f i)) → T (clear (diffuse_of f deep c r))
+  diffuse_clear deep g =
+      let t = tables_XY deep in
       let xy : (i : ℕ) → i < 1400 → Good (f i) = λ (i : ℕ) (l : i < 1400). g i (omega arith) in
-      diffuse-clear-by f deep c r (clear-X xy) (clear-Y xy) (clear-Z deep g)
+      diffuse_clear_by f deep c r (clear_X xy) (clear_Y xy) (clear_Z deep g)

@@ -10,20 +10,20 @@ use lib.Dec.{T}
 use lib.Ieee.{Float, nan, inf, fin, binary64, up, down, add, mul, lt, le, eq, fits}
 use lib.Ieee.Scale.{finite}
 use Rattle.doubles.specs.Arithmetic.{◌⊕◌, ◌⊖◌, ◌⊘◌, one64, zero64}
-use Rattle.doubles.proofs.Laws.{add-fits, lerp-clear}
-use Rattle.doubles.proofs.Magnitude.{plain, plain-finite}
+use Rattle.doubles.proofs.Laws.{add-fits, lerp_clear}
+use Rattle.doubles.proofs.Magnitude.{plain, plain_finite}
 use Rattle.doubles.proofs.Signs.{clear}
 use Rattle.gains.specs.declared.Bracket.{Bracket}
 use Rattle.field.specs.Knots.{X, Y, Z, steps, radius_knot}
 use Rattle.gains.specs.Lookup.{tabulate, centre_knots, radius_knots, at_knot, bracket_of, mixed, at_centre, lookup_of}
 use Rattle.field.specs.Responses.{count_below}
-use Rattle.field.proofs.ResponseOrder.{not-lt-of-not-le}
+use Rattle.field.proofs.ResponseOrder.{not_lt_of_not_le}
 use Rattle.extent.proofs.Tests.{yes}
-use Rattle.gains.proofs.lookup.Comparing.{le_of_lt, le_of_not_lt, nan-of, between-plain}
-use Rattle.gains.proofs.lookup.Listing.{below-before, below_at, below-most, below-some}
-use Rattle.gains.proofs.lookup.Rising.{Rising, rising-34, rising-3, rising-radius}
-use Rattle.gains.proofs.lookup.Cases.{knots, knots-length, knots-at, knots-first, between-same, at_first, at_last, between-by, at-no-number}
-use Rattle.gains.proofs.lookup.Quotient.{quotient-up-to}
+use Rattle.gains.proofs.lookup.Comparing.{le_of_lt, le_of_not_lt, nan_of, between_plain}
+use Rattle.gains.proofs.lookup.Listing.{below_before, below_at, below_most, below_some}
+use Rattle.gains.proofs.lookup.Rising.{Rising, rising_34, rising_3, rising_radius}
+use Rattle.gains.proofs.lookup.Cases.{knots, knots_length, knots_at, knots_first, between_same, at_first, at_last, between_by, at_no_number}
+use Rattle.gains.proofs.lookup.Quotient.{quotient_up_to}
 
 -- ---- a bracket's numbers
 
@@ -38,19 +38,19 @@ pub record Placed (last : ℕ) (v : Float) (b : Bracket) : Type 0 where
   pub double : T (fits binary64 b.t)
   pub share : Share v b.t
 
-at-knot : (last : ℕ) (v : Float) (i : ℕ) → i ≤ last → Placed last v (at_knot i)
+at_knot_lem : (last : ℕ) (v : Float) (i : ℕ) → i ≤ last → Placed last v (at_knot i)
 unfolding lt le eq fits
-at-knot last v i h = record { order = le_refl i; within = h; double = tt; share = inr (tt, tt, tt) }
+at_knot_lem last v i h = record { order = le_refl i; within = h; double = tt; share = inr (tt, tt, tt) }
 
 -- a finite number with a clear sign is from 0 up
-plain-from : (t : Float) → T (plain t) → T (le zero64 t)
-plain-from t p = yes (le_of_not_lt t zero64 (plain-finite t p) tt (not-under t p))
+plain_from : (t : Float) → T (plain t) → T (le zero64 t)
+plain_from t p = yes (le_of_not_lt t zero64 (plain_finite t p) tt (not_under t p))
   where
-    not-under : (t : Float) → T (plain t) → lt t zero64 ≡ false
-    not-under nan p = absurd p
-    not-under (inf s) p = absurd p
-    not-under (fin true m e) p = absurd p
-    not-under (fin false m e) p = unfold lt in le-ltb (m * up e * 1) (0 * 1 * down e) (omega arith)
+    not_under : (t : Float) → T (plain t) → lt t zero64 ≡ false
+    not_under nan p = absurd p
+    not_under (inf s) p = absurd p
+    not_under (fin true m e) p = absurd p
+    not_under (fin false m e) p = unfold lt in le-ltb (m * up e * 1) (0 * 1 * down e) (omega arith)
 
 module _ (f : ℕ → Float) (last : ℕ) (r : Rising f last) (v : Float) (d : T (fits binary64 v)) where
   -- between two knots
@@ -58,66 +58,66 @@ module _ (f : ℕ → Float) (last : ℕ) (r : Rising f last) (v : Float) (d : T
   between h e =
       let xs = knots f last r in
       let k = count_below v xs in
-      let n = knots-length f last r in
-      let some : 1 ≤ k = below-some v xs (ap (λ (x : Float). lt x v) (knots-first f last r) ∙ h) (omega arith) in
-      let most : k ≤ last = below-most v xs last (omega arith) (ap (λ (x : Float). lt x v) (knots-at f last r last (omega arith)) ∙ not-lt-of-not-le (f last) v e) in
+      let n = knots_length f last r in
+      let some : 1 ≤ k = below_some v xs (ap (λ (x : Float). lt x v) (knots_first f last r) ∙ h) (omega arith) in
+      let most : k ≤ last = below_most v xs last (omega arith) (ap (λ (x : Float). lt x v) (knots_at f last r last (omega arith)) ∙ not_lt_of_not_le (f last) v e) in
       let less : k - 1 ≤ last = omega arith in
       let j : suc (k - 1) ≡ k = omega arith in
-      let under : lt (f (k - 1)) v ≡ true = ap (λ (x : Float). lt x v) (sym (knots-at f last r (k - 1) less)) ∙ below-before v xs (k - 1) (omega arith) in
-      let over : lt (f k) v ≡ false = ap (λ (x : Float). lt x v) (sym (knots-at f last r k most)) ∙ below_at v xs (omega arith) in
+      let under : lt (f (k - 1)) v ≡ true = ap (λ (x : Float). lt x v) (sym (knots_at f last r (k - 1) less)) ∙ below_before v xs (k - 1) (omega arith) in
+      let over : lt (f k) v ≡ false = ap (λ (x : Float). lt x v) (sym (knots_at f last r k most)) ∙ below_at v xs (omega arith) in
       let apart : lt zero64 (f k ⊖ f (k - 1)) ≡ true = ap (λ (i : ℕ). lt zero64 (f i ⊖ f (k - 1))) (sym j) ∙ r.apart (k - 1) (omega arith) in
-      let p = between-plain zero64 (f last) v tt (r.plains last (omega arith)) h e in
+      let p = between_plain zero64 (f last) v tt (r.plains last (omega arith)) h e in
       let pa = r.plains (k - 1) less in
       let pb = r.plains k most in
-      let q = quotient-up-to binary64 (f (k - 1)) v (f k) (r.doubles (k - 1) less) d (r.doubles k most) pa p pb (le_of_lt (f (k - 1)) v under) (yes (le_of_not_lt (f k) v (plain-finite (f k) pb) (plain-finite v p) over)) apart in
+      let q = quotient_up_to binary64 (f (k - 1)) v (f k) (r.doubles (k - 1) less) d (r.doubles k most) pa p pb (le_of_lt (f (k - 1)) v under) (yes (le_of_not_lt (f k) v (plain_finite (f k) pb) (plain_finite v p) over)) apart in
       let t = (v ⊖ f (k - 1)) ⊘ (f k ⊖ f (k - 1)) in
-      subst (Placed last v) (sym (between-by f last r v h e ∙ between-same f last r v k most))
-      (record { order = omega arith; within = most; double = q.0; share = inr (plain-finite t q.1, plain-from t q.1, q.2) })
+      subst (Placed last v) (sym (between_by f last r v h e ∙ between_same f last r v k most))
+      (record { order = omega arith; within = most; double = q.0; share = inr (plain_finite t q.1, plain_from t q.1, q.2) })
 
   pub placed : Placed last v (bracket_of (tabulate f (last + 1)) v)
   placed = go (le v zero64) (lt zero64 v) (le (f last) v) refl refl refl
     where
       go : (a b c : Bool) → le v zero64 ≡ a → lt zero64 v ≡ b → le (f last) v ≡ c → Placed last v (bracket_of (tabulate f (last + 1)) v)
-      go true b c e g h = subst (Placed last v) (sym (at_first f last r v e)) (at-knot last v 0 (omega arith))
+      go true b c e g h = subst (Placed last v) (sym (at_first f last r v e)) (at_knot_lem last v 0 (omega arith))
       go false false c e g h =
-          let z = nan-of v g e in
-          subst (Placed last v) (sym (at-no-number f last r v g e)) (record { order = omega arith; within = omega arith; double = d; share = inl (z, z) })
-      go false true true e g h = subst (Placed last v) (sym (at_last f last r v g h)) (at-knot last v last (omega arith))
+          let z = nan_of v g e in
+          subst (Placed last v) (sym (at_no_number f last r v g e)) (record { order = omega arith; within = omega arith; double = d; share = inl (z, z) })
+      go false true true e g h = subst (Placed last v) (sym (at_last f last r v g h)) (at_knot_lem last v last (omega arith))
       go false true false e g h = between g h
 
-pub placed-X : (v : Float) → T (fits binary64 v) → Placed 34 v (bracket_of (centre_knots X) v)
-placed-X v d = placed (steps 34) 34 rising-34 v d
+pub placed_X : (v : Float) → T (fits binary64 v) → Placed 34 v (bracket_of (centre_knots X) v)
+placed_X v d = placed (steps 34) 34 rising_34 v d
 
-pub placed-Y : (v : Float) → T (fits binary64 v) → Placed 34 v (bracket_of (centre_knots Y) v)
-placed-Y v d = placed (steps 34) 34 rising-34 v d
+pub placed_Y : (v : Float) → T (fits binary64 v) → Placed 34 v (bracket_of (centre_knots Y) v)
+placed_Y v d = placed (steps 34) 34 rising_34 v d
 
-pub placed-Z : (v : Float) → T (fits binary64 v) → Placed 3 v (bracket_of (centre_knots Z) v)
-placed-Z v d = placed (steps 3) 3 rising-3 v d
+pub placed_Z : (v : Float) → T (fits binary64 v) → Placed 3 v (bracket_of (centre_knots Z) v)
+placed_Z v d = placed (steps 3) 3 rising_3 v d
 
-pub placed-radius : (v : Float) → T (fits binary64 v) → Placed 19 v (bracket_of radius_knots v)
-placed-radius v d = placed radius_knot 19 rising-radius v d
+pub placed_radius : (v : Float) → T (fits binary64 v) → Placed 19 v (bracket_of radius_knots v)
+placed_radius v d = placed radius_knot 19 rising_radius v d
 
 -- a bracket's rows lie within a table that does, as `lookup` asks
-pub table-room : (from n last size : ℕ) (v : Float) (b : Bracket) → Placed last v b → from + (last * 20 + 20) * n ≤ size → from + (b.upper * 20 + 20) * n ≤ size
-table-room from n last size v b p h =
+pub table_room : (from n last size : ℕ) (v : Float) (b : Bracket) → Placed last v b → from + (last * 20 + 20) * n ≤ size → from + (b.upper * 20 + 20) * n ≤ size
+table_room from n last size v b p h =
     let w = p.within in
     let l : b.upper * 20 + 20 ≤ last * 20 + 20 = omega arith in
     omega (arith, mul-le-mul_right n l)
 
 -- ---- lookups
-add-nan : (a : Float) → T (clear (a ⊕ nan))
+add_nan : (a : Float) → T (clear (a ⊕ nan))
 unfolding add
-add-nan nan = tt
-add-nan (inf s) = tt
-add-nan (fin s m e) = tt
+add_nan nan = tt
+add_nan (inf s) = tt
+add_nan (fin s m e) = tt
 
-mixed-nan : (a b : Float) → T (clear (mixed a b nan))
+mixed_nan : (a b : Float) → T (clear (mixed a b nan))
 unfolding mul
-mixed-nan a b = add-nan a
+mixed_nan a b = add_nan a
 
-mixed-clear : (v a b t : Float) → T (fits binary64 a) → T (clear a) → T (clear b) → T (fits binary64 t) → Share v t → T (clear (mixed a b t))
-mixed-clear v a b t h p q k (inl s) = subst (λ (z : Float). T (clear (mixed a b z))) (sym s.1) (mixed-nan a b)
-mixed-clear v a b t h p q k (inr s) = lerp-clear a b t h k p q s.1 s.2
+mixed_clear : (v a b t : Float) → T (fits binary64 a) → T (clear a) → T (clear b) → T (fits binary64 t) → Share v t → T (clear (mixed a b t))
+mixed_clear v a b t h p q k (inl s) = subst (λ (z : Float). T (clear (mixed a b z))) (sym s.1) (mixed_nan a b)
+mixed_clear v a b t h p q k (inr s) = lerp_clear a b t h k p q s.1 s.2
 
 module _ (last : ℕ) (v w : Float) (c r : Bracket) (C : Placed last v c) (R : Placed 19 w r) where
   -- the four rows are of the table
@@ -125,20 +125,20 @@ module _ (last : ℕ) (v w : Float) (c r : Bracket) (C : Placed last v c) (R : P
   in_table i j h k = let m = C.within in let n = R.within in omega arith
 
   -- clear numbers that are doubles give a clear number
-  pub lookup-clear : (row : ℕ → Float) → ((i : ℕ) → i < last * 20 + 20 → T (clear (row i))) → ((i : ℕ) → i < last * 20 + 20 → T (fits binary64 (row i))) → T (clear (lookup_of row c r))
+  pub lookup_clear : (row : ℕ → Float) → ((i : ℕ) → i < last * 20 + 20 → T (clear (row i))) → ((i : ℕ) → i < last * 20 + 20 → T (fits binary64 (row i))) → T (clear (lookup_of row c r))
   unfolding lookup_of
-  lookup-clear row p q =
+  lookup_clear row p q =
       let o = R.order in
       let at : (i : ℕ) → i ≤ c.upper → T (clear (at_centre row r i)) =
       λ (i : ℕ) (h : i ≤ c.upper).
       let m = in_table i r.lower h o in
-      mixed-clear w (row (i * 20 + r.lower)) (row (i * 20 + r.upper)) r.t (q (i * 20 + r.lower) m) (p (i * 20 + r.lower) m) (p (i * 20 + r.upper) (in_table i r.upper h (le_refl r.upper))) R.double R.share in
-      mixed-clear v (at_centre row r c.lower) (at_centre row r c.upper) c.t (add-fits _ _) (at c.lower C.order) (at c.upper (le_refl c.upper)) C.double C.share
+      mixed_clear w (row (i * 20 + r.lower)) (row (i * 20 + r.upper)) r.t (q (i * 20 + r.lower) m) (p (i * 20 + r.lower) m) (p (i * 20 + r.upper) (in_table i r.upper h (le_refl r.upper))) R.double R.share in
+      mixed_clear v (at_centre row r c.lower) (at_centre row r c.upper) c.t (add-fits _ _) (at c.lower C.order) (at c.upper (le_refl c.upper)) C.double C.share
 
   -- rows that agree within the table give one number
-  pub lookup-same : (f g : ℕ → Float) → ((i : ℕ) → i < last * 20 + 20 → f i ≡ g i) → lookup_of f c r ≡ lookup_of g c r
+  pub lookup_same : (f g : ℕ → Float) → ((i : ℕ) → i < last * 20 + 20 → f i ≡ g i) → lookup_of f c r ≡ lookup_of g c r
   unfolding lookup_of
-  lookup-same f g e =
+  lookup_same f g e =
       let o = R.order in
       let u = le_refl r.upper in
       let at : (i : ℕ) → i ≤ c.upper → at_centre f r i ≡ at_centre g r i =

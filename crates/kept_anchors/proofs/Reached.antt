@@ -8,27 +8,27 @@ use native.Mathlib.Omega.{arith}
 use lib.ListN.{length, take, drop, set, get_or}
 use lib.Seq.{slice, take-suc, take-suc-set, take_all, drop-drop, get_or-take, get_or-drop, length-slice}
 use Rattle.lists.specs.Lists.{total}
-use Rattle.lists.proofs.Chunks.{slice-take}
-use Rattle.layout.proofs.TopologyLists.{drop-cap}
-use Rattle.layout.proofs.TopologyStarts.{part-here}
+use Rattle.lists.proofs.Chunks.{slice_take}
+use Rattle.layout.proofs.TopologyLists.{drop_cap}
+use Rattle.layout.proofs.TopologyStarts.{part_here}
 use Rattle.kept_anchors.specs.Steps.Kept.{count_set, counts_of}
 
 -- ---- n entries of a list from place a on
 module _ (a n : ℕ) (l : List ℕ) where
   pub part_at : (i : ℕ) → i < n → get_or l (a + i) 0 ≡ get_or (slice a (a + n) l) i 0
-  part_at i h = sym (ap (λ (t : List ℕ). get_or t i 0) (slice-take a n l) ∙ get_or-take n (drop a l) i 0 h ∙ get_or-drop a l i 0)
+  part_at i h = sym (ap (λ (t : List ℕ). get_or t i 0) (slice_take a n l) ∙ get_or-take n (drop a l) i 0 h ∙ get_or-drop a l i 0)
 
-  pub part-long : a + n ≤ length l → length (slice a (a + n) l) ≡ n
-  part-long h = length-slice a (a + n) l h ∙ omega arith
+  pub part_long : a + n ≤ length l → length (slice a (a + n) l) ≡ n
+  part_long h = length-slice a (a + n) l h ∙ omega arith
 
-pub counts-long : (ns : List ℕ) (bs : List Bool) → length (counts_of ns bs) ≡ length ns
-counts-long [] bs = refl
-counts-long (n ∷ ns) bs = ap suc (counts-long ns (drop n bs))
+pub counts_long : (ns : List ℕ) (bs : List Bool) → length (counts_of ns bs) ≡ length ns
+counts_long [] bs = refl
+counts_long (n ∷ ns) bs = ap suc (counts_long ns (drop n bs))
 
-total-more : (ns : List ℕ) (i : ℕ) → i < length ns → total (take (suc i) ns) ≡ total (take i ns) + get_or ns i 0
-total-more [] i h = absurd (omega arith)
-total-more (n ∷ ns) zero h = omega arith
-total-more (n ∷ ns) (suc i) h = omega (arith, total-more ns i (omega arith))
+total_more : (ns : List ℕ) (i : ℕ) → i < length ns → total (take (suc i) ns) ≡ total (take i ns) + get_or ns i 0
+total_more [] i h = absurd (omega arith)
+total_more (n ∷ ns) zero h = omega arith
+total_more (n ∷ ns) (suc i) h = omega (arith, total_more ns i (omega arith))
 
 count_at : (ns : List ℕ) (bs : List Bool) (i : ℕ) → i < length ns → get_or (counts_of ns bs) i 0 ≡ count_set (take (get_or ns i 0) (drop (total (take i ns)) bs))
 count_at [] bs i h = absurd (omega arith)
@@ -41,32 +41,32 @@ pub record Reached (ns : List ℕ) (n at i : ℕ) : Type 0 where
   pub counts : length ns ≡ n
   pub start : at ≡ min (total (take i ns)) 24
 
-pub reached-none : (ns : List ℕ) (n : ℕ) → length ns ≡ n → Reached ns n 0 0
-reached-none ns n e = record { le = omega arith; counts = e; start = omega arith }
+pub reached_none : (ns : List ℕ) (n : ℕ) → length ns ≡ n → Reached ns n 0 0
+reached_none ns n e = record { le = omega arith; counts = e; start = omega arith }
 
 module _ (ns : List ℕ) (n at i : ℕ) (w : Reached ns n at i) where
-  pub reached-more : (c end : ℕ) → i < n → c ≡ get_or ns i 0 → end ≡ min (at + c) 24 → Reached ns n end (i + 1)
-  reached-more c end h p q =
-      let t = total-more ns i (omega (arith, w.counts)) in
+  pub reached_more : (c end : ℕ) → i < n → c ≡ get_or ns i 0 → end ≡ min (at + c) 24 → Reached ns n end (i + 1)
+  reached_more c end h p q =
+      let t = total_more ns i (omega (arith, w.counts)) in
       record { le = omega arith; counts = w.counts; start = rw add-one (omega (arith, t, p, q, w.start)) }
 
-  pub reached-done : n ≤ i → at ≡ min (total ns) 24
-  reached-done h = w.start ∙ ap (λ (l : List ℕ). min (total l) 24) (take_all i ns (omega (arith, w.counts)))
+  pub reached_done : n ≤ i → at ≡ min (total ns) 24
+  reached_done h = w.start ∙ ap (λ (l : List ℕ). min (total l) 24) (take_all i ns (omega (arith, w.counts)))
 
   -- how many flags are set in this part
-  pub reached-count : (bs : List Bool) (c end : ℕ) → length bs ≡ 24 → i < n → c ≡ get_or ns i 0 → end ≡ min (at + c) 24 → count_set (slice at end bs) ≡ get_or (counts_of ns bs) i 0
-  reached-count bs c end l h p q =
+  pub reached_count : (bs : List Bool) (c end : ℕ) → length bs ≡ 24 → i < n → c ≡ get_or ns i 0 → end ≡ min (at + c) 24 → count_set (slice at end bs) ≡ get_or (counts_of ns bs) i 0
+  reached_count bs c end l h p q =
       ap (λ (e : ℕ). count_set (slice at e bs)) q
-      ∙ ap count_set (sym (part-here at c bs (omega (arith, l))))
+      ∙ ap count_set (sym (part_here at c bs (omega (arith, l))))
       ∙ ap (λ (s : ℕ). count_set (take c (drop s bs))) w.start
-      ∙ ap (λ (t : List Bool). count_set (take c t)) (sym (drop-cap (total (take i ns)) 24 bs (omega (arith, l))))
+      ∙ ap (λ (t : List Bool). count_set (take c t)) (sym (drop_cap (total (take i ns)) 24 bs (omega (arith, l))))
       ∙ ap (λ (m : ℕ). count_set (take m (drop (total (take i ns)) bs))) p
       ∙ sym (count_at ns bs i (omega (arith, w.counts)))
 
 -- ---- a loop that writes the counts from the front of an array
 module _ (l out : List ℕ) (i : ℕ) (e : take i out ≡ take i l) where
-  pub written-more : (a : ℕ) → i < length out → i < length l → a ≡ get_or l i 0 → take (i + 1) (set out i a) ≡ take (i + 1) l
-  written-more a h k q = rw (add-one, take-suc-set out i a h, take-suc l i 0 k, e, q)
+  pub written_more : (a : ℕ) → i < length out → i < length l → a ≡ get_or l i 0 → take (i + 1) (set out i a) ≡ take (i + 1) l
+  written_more a h k q = rw (add-one, take-suc-set out i a h, take-suc l i 0 k, e, q)
 
-  pub written-done : (n : ℕ) → i ≡ n → length l ≡ n → take n out ≡ l
-  written-done n p q = rw (← p) (e ∙ take_all i l (omega (arith, p, q)))
+  pub written_done : (n : ℕ) → i ≡ n → length l ≡ n → take n out ≡ l
+  written_done n p q = rw (← p) (e ∙ take_all i l (omega (arith, p, q)))

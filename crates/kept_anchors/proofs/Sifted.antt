@@ -10,24 +10,24 @@ use lib.Seq.{paste, paste-zero, take-append-le, take_all, get_or_at, get_or-set_
 use Rattle.keys.specs.Steps.{two_parts}
 use Rattle.keys.proofs.KeyParts.{Packed, packed_more}
 use Rattle.kept_anchors.specs.Steps.Kept.{picked, picked_parts, Cleared}
-use Rattle.kept_anchors.proofs.Picked.{none-picked}
-use Rattle.kept_anchors.proofs.Apart.{two-between, two-behind}
+use Rattle.kept_anchors.proofs.Picked.{none_picked}
+use Rattle.kept_anchors.proofs.Apart.{two_between, two_behind}
 
 -- ---- one entry more
-picked-keep : {A : Type 0} (bs : List Bool) (xs : List A) (i : ℕ) (d : A) → i < length bs → i < length xs → get_or bs i false ≡ true → picked bs (take (suc i) xs) ≡ picked bs (take i xs) ++ (get_or xs i d ∷ [])
-picked-keep [] xs i d h k e = absurd (omega arith)
-picked-keep (b ∷ bs) [] i d h k e = absurd (omega arith)
-picked-keep (b ∷ bs) (x ∷ xs) zero d h k e = rw (e, none-picked bs)
-picked-keep {A = A} (true ∷ bs) (x ∷ xs) (suc i) d h k e = ap (λ (l : List A). x ∷ l) (picked-keep bs xs i d (omega arith) (omega arith) e)
-picked-keep (false ∷ bs) (x ∷ xs) (suc i) d h k e = picked-keep bs xs i d (omega arith) (omega arith) e
+picked_keep : {A : Type 0} (bs : List Bool) (xs : List A) (i : ℕ) (d : A) → i < length bs → i < length xs → get_or bs i false ≡ true → picked bs (take (suc i) xs) ≡ picked bs (take i xs) ++ (get_or xs i d ∷ [])
+picked_keep [] xs i d h k e = absurd (omega arith)
+picked_keep (b ∷ bs) [] i d h k e = absurd (omega arith)
+picked_keep (b ∷ bs) (x ∷ xs) zero d h k e = rw (e, none_picked bs)
+picked_keep {A = A} (true ∷ bs) (x ∷ xs) (suc i) d h k e = ap (λ (l : List A). x ∷ l) (picked_keep bs xs i d (omega arith) (omega arith) e)
+picked_keep (false ∷ bs) (x ∷ xs) (suc i) d h k e = picked_keep bs xs i d (omega arith) (omega arith) e
 
-picked-skip : {A : Type 0} (bs : List Bool) (xs : List A) (i : ℕ) → i < length bs → get_or bs i false ≡ false → picked bs (take (suc i) xs) ≡ picked bs (take i xs)
-picked-skip [] xs i h e = absurd (omega arith)
-picked-skip (b ∷ bs) [] zero h e = refl
-picked-skip (b ∷ bs) [] (suc i) h e = refl
-picked-skip (b ∷ bs) (x ∷ xs) zero h e = rw (e, none-picked bs)
-picked-skip {A = A} (true ∷ bs) (x ∷ xs) (suc i) h e = ap (λ (l : List A). x ∷ l) (picked-skip bs xs i (omega arith) e)
-picked-skip (false ∷ bs) (x ∷ xs) (suc i) h e = picked-skip bs xs i (omega arith) e
+picked_skip : {A : Type 0} (bs : List Bool) (xs : List A) (i : ℕ) → i < length bs → get_or bs i false ≡ false → picked bs (take (suc i) xs) ≡ picked bs (take i xs)
+picked_skip [] xs i h e = absurd (omega arith)
+picked_skip (b ∷ bs) [] zero h e = refl
+picked_skip (b ∷ bs) [] (suc i) h e = refl
+picked_skip (b ∷ bs) (x ∷ xs) zero h e = rw (e, none_picked bs)
+picked_skip {A = A} (true ∷ bs) (x ∷ xs) (suc i) h e = ap (λ (l : List A). x ∷ l) (picked_skip bs xs i (omega arith) e)
+picked_skip (false ∷ bs) (x ∷ xs) (suc i) h e = picked_skip bs xs i (omega arith) e
 
 -- ---- the loop: of the first i entries, k are written
 pub record Sifted (a b n : ℕ) (bs : List Bool) (xs ys old key : List ℕ) (k i : ℕ) : Type 0 where
@@ -44,8 +44,8 @@ pub record Sifted (a b n : ℕ) (bs : List Bool) (xs ys old key : List ℕ) (k i
   pub same : key ≡ two_parts a (picked bs (take i xs)) b (picked bs (take i ys)) k old
 
 module _ (a b n : ℕ) (bs : List Bool) (xs ys old : List ℕ) where
-  pub sifted-none : n ≤ length bs → length xs ≡ n → length ys ≡ n → a + n ≤ b → b + n ≤ length old → Sifted a b n bs xs ys old old 0 0
-  sifted-none f p q h r =
+  pub sifted_none : n ≤ length bs → length xs ≡ n → length ys ≡ n → a + n ≤ b → b + n ≤ length old → Sifted a b n bs xs ys old old 0 0
+  sifted_none f p q h r =
       record {
         reached = omega arith;
         few = omega arith;
@@ -55,16 +55,16 @@ module _ (a b n : ℕ) (bs : List Bool) (xs ys old : List ℕ) where
         apart = h;
         room = r;
         long = refl;
-        written = ap length (none-picked bs);
-        beside = ap length (none-picked bs);
+        written = ap length (none_picked bs);
+        beside = ap length (none_picked bs);
         same = paste-zero old a (picked bs []) ∙ paste-zero (paste old a (picked bs []) 0) b (picked bs []);
       }
 
   module _ (key : List ℕ) (k i : ℕ) (w : Sifted a b n bs xs ys old key k i) where
-    pub sifted-skip : (key' : List ℕ) (k' : ℕ) → key' ≡ key → k' ≡ k → i < n → get_or bs i false ≡ false → Sifted a b n bs xs ys old key' k' (i + 1)
-    sifted-skip key' k' f g h e =
-        let p = picked-skip bs xs i (omega (arith, w.flags)) e in
-        let q = picked-skip bs ys i (omega (arith, w.flags)) e in
+    pub sifted_skip : (key' : List ℕ) (k' : ℕ) → key' ≡ key → k' ≡ k → i < n → get_or bs i false ≡ false → Sifted a b n bs xs ys old key' k' (i + 1)
+    sifted_skip key' k' f g h e =
+        let p = picked_skip bs xs i (omega (arith, w.flags)) e in
+        let q = picked_skip bs ys i (omega (arith, w.flags)) e in
         rw (f, g)
         (record {
           reached = omega arith;
@@ -80,12 +80,12 @@ module _ (a b n : ℕ) (bs : List Bool) (xs ys old : List ℕ) where
           same = rw (add-one, p, q) w.same;
         })
 
-    pub sifted-keep : (j m x y : ℕ) (key' : List ℕ) (k' : ℕ) → key' ≡ set (set key j x) m y → k' ≡ k + 1 → i < n → get_or bs i false ≡ true → j ≡ a + k → m ≡ b + k → x ≡ get_or xs i 0 → y ≡ get_or ys i 0 → Sifted a b n bs xs ys old key' k' (i + 1)
-    sifted-keep j m x y key' k' f g h e ej em ex ey =
+    pub sifted_keep : (j m x y : ℕ) (key' : List ℕ) (k' : ℕ) → key' ≡ set (set key j x) m y → k' ≡ k + 1 → i < n → get_or bs i false ≡ true → j ≡ a + k → m ≡ b + k → x ≡ get_or xs i 0 → y ≡ get_or ys i 0 → Sifted a b n bs xs ys old key' k' (i + 1)
+    sifted_keep j m x y key' k' f g h e ej em ex ey =
         let us = picked bs (take i xs) in
         let vs = picked bs (take i ys) in
-        let p : picked bs (take (suc i) xs) ≡ us ++ (x ∷ []) = rw ex (picked-keep bs xs i 0 (omega (arith, w.flags)) (omega (arith, w.firsts)) e) in
-        let q : picked bs (take (suc i) ys) ≡ vs ++ (y ∷ []) = rw ey (picked-keep bs ys i 0 (omega (arith, w.flags)) (omega (arith, w.seconds)) e) in
+        let p : picked bs (take (suc i) xs) ≡ us ++ (x ∷ []) = rw ex (picked_keep bs xs i 0 (omega (arith, w.flags)) (omega (arith, w.firsts)) e) in
+        let q : picked bs (take (suc i) ys) ≡ vs ++ (y ∷ []) = rw ey (picked_keep bs ys i 0 (omega (arith, w.flags)) (omega (arith, w.seconds)) e) in
         let lu : length (us ++ (x ∷ [])) ≡ k + 1 = length-append us (x ∷ []) ∙ omega (arith, w.written) in
         let lv : length (vs ++ (y ∷ [])) ≡ k + 1 = length-append vs (y ∷ []) ∙ omega (arith, w.beside) in
         let before : Packed a (us ++ (x ∷ [])) b (vs ++ (y ∷ [])) (k + 1) old key k =
@@ -115,31 +115,31 @@ module _ (a b n : ℕ) (bs : List Bool) (xs ys old : List ℕ) where
         })
 
     -- what is left to be read is as it was
-    pub sifted-first : i < n → get_or key (a + i) 0 ≡ get_or old (a + i) 0
-    sifted-first h =
+    pub sifted_first : i < n → get_or key (a + i) 0 ≡ get_or old (a + i) 0
+    sifted_first h =
         ap (λ (t : List ℕ). get_or t (a + i) 0) w.same
-        ∙ two-between a b k (picked bs (take i xs)) (picked bs (take i ys)) old (omega (arith, w.written)) (omega (arith, w.beside)) (omega (arith, w.few, w.apart)) (omega (arith, w.few, w.room)) (a + i) (omega (arith, w.few)) (omega (arith, w.apart))
+        ∙ two_between a b k (picked bs (take i xs)) (picked bs (take i ys)) old (omega (arith, w.written)) (omega (arith, w.beside)) (omega (arith, w.few, w.apart)) (omega (arith, w.few, w.room)) (a + i) (omega (arith, w.few)) (omega (arith, w.apart))
 
-    pub sifted-second : (j x : ℕ) → j < b → i < n → get_or (set key j x) (b + i) 0 ≡ get_or old (b + i) 0
-    sifted-second j x f h =
+    pub sifted_second : (j x : ℕ) → j < b → i < n → get_or (set key j x) (b + i) 0 ≡ get_or old (b + i) 0
+    sifted_second j x f h =
         get_or-set_other key j (b + i) x 0 (λ e. omega (arith, e))
         ∙ ap (λ (t : List ℕ). get_or t (b + i) 0) w.same
-        ∙ two-behind a b k (picked bs (take i xs)) (picked bs (take i ys)) old (omega (arith, w.written)) (omega (arith, w.beside)) (omega (arith, w.few, w.apart)) (omega (arith, w.few, w.room)) (b + i) (omega (arith, w.few))
+        ∙ two_behind a b k (picked bs (take i xs)) (picked bs (take i ys)) old (omega (arith, w.written)) (omega (arith, w.beside)) (omega (arith, w.few, w.apart)) (omega (arith, w.few, w.room)) (b + i) (omega (arith, w.few))
 
     module _ (h : n ≤ i) where
-      firsts-all : take i xs ≡ xs
-      firsts-all = take_all i xs (omega (arith, w.firsts))
+      firsts_all : take i xs ≡ xs
+      firsts_all = take_all i xs (omega (arith, w.firsts))
 
-      seconds-all : take i ys ≡ ys
-      seconds-all = take_all i ys (omega (arith, w.seconds))
+      seconds_all : take i ys ≡ ys
+      seconds_all = take_all i ys (omega (arith, w.seconds))
 
-      pub sifted-count : k ≡ length (picked bs xs)
-      sifted-count = sym w.written ∙ ap (λ (l : List ℕ). length (picked bs l)) firsts-all
+      pub sifted_count : k ≡ length (picked bs xs)
+      sifted_count = sym w.written ∙ ap (λ (l : List ℕ). length (picked bs l)) firsts_all
 
       -- with what is left behind them cleared
-      pub sifted-done : (out : List ℕ) → length old ≡ 156 →
+      pub sifted_done : (out : List ℕ) → length old ≡ 156 →
           Cleared a b k n key out → out ≡ picked_parts a b n bs xs ys old
-      sifted-done out o f =
-          f old (picked bs xs) (picked bs ys) o (sym sifted-count)
-          (ap (λ (l : List ℕ). length (picked bs l)) (sym seconds-all) ∙ w.beside)
-          (rw (firsts-all, seconds-all) at w.same)
+      sifted_done out o f =
+          f old (picked bs xs) (picked bs ys) o (sym sifted_count)
+          (ap (λ (l : List ℕ). length (picked bs l)) (sym seconds_all) ∙ w.beside)
+          (rw (firsts_all, seconds_all) at w.same)

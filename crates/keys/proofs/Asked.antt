@@ -11,37 +11,37 @@ use lib.Ieee.{Float, binary64, fits}
 use lib.ListN.{length, take, length-map, length-take}
 use lib.Seq.{slice, length-take-le}
 use Rattle.lists.specs.Lists.{all_of, any_of, elem, filtered, all_distinct, chunks, total, bit, zip_with}
-use Rattle.lists.proofs.Chunks.{chunks-take, slice_front}
-use Rattle.lists.proofs.Takes.{map-take}
-use Rattle.lists.proofs.Zips.{map-map, map-id, zip-take, zip-map}
+use Rattle.lists.proofs.Chunks.{chunks_take, slice_front}
+use Rattle.lists.proofs.Takes.{map_take}
+use Rattle.lists.proofs.Zips.{map-map, map-id, zip_take, zip_map}
 use Rattle.layout.specs.declared.Layout.{Layout}
 use Rattle.layout.specs.declared.Channel.{Channel}
 use Rattle.layout.specs.Name.{valid_name}
 use Rattle.layout.specs.Channels.{channels_of, channel_name, active}
 use Rattle.layout.specs.Topology.{rows_of, used_layers, used_rows, used_anchors, layer_z, layer_count, row_y, row_count, anchor_x, anchor_name}
 use Rattle.layout.specs.Questions.{from_to, ordered, first_no, layout_questions, question1, question2, question3, question4, question5, question6}
-use Rattle.layout.proofs.Coordinates.{all-taken}
+use Rattle.layout.proofs.Coordinates.{all_taken}
 use Rattle.layout.proofs.Sizes.{Sized}
 use Rattle.layout.proofs.TopologyCut.{with_x, with_y, with_z}
-use Rattle.layout.proofs.TopologyStarts.{layers-z}
+use Rattle.layout.proofs.TopologyStarts.{layers_z}
 use Rattle.layout.proofs.QuestionsAccepted.{yes1}
-use Rattle.layout.proofs.QuestionsOrdered.{layers-ordered}
-use Rattle.layout.proofs.QuestionsCounted.{both, within, total-most}
+use Rattle.layout.proofs.QuestionsOrdered.{layers_ordered_lem}
+use Rattle.layout.proofs.QuestionsCounted.{both, within, total_most}
 use Rattle.keys.specs.Keys.{flag_number}
 use Rattle.keys.specs.Steps.{packed_numbers, z_pattern, y_pattern, x_pattern}
 use Rattle.keys.specs.InKey.{channel_in, layer_in, row_in, anchor_in, layout_in}
 use Rattle.keys.proofs.KeyReads.{Reads, key_reads}
-use Rattle.keys.proofs.Back.{back, ordered-back, chunks-back}
+use Rattle.keys.proofs.Back.{back, ordered_back, chunks_back}
 
 -- ---- a part of a key, by the entries that it was packed from
 part_in : {A : Type 0} (g : ℕ → ℕ → A) (f h : A → ℕ) (key : List ℕ) (a b m most : ℕ) (v : List A) → m ≡ length v → m ≤ most → slice a (a + length v) key ≡ map f v → slice b (b + length v) key ≡ map h v → take m (zip_with g (slice a (a + most) key) (slice b (b + most) key)) ≡ map (λ (x : A). g (f x) (h x)) v
 part_in g f h key a b m most v e l p q =
-    zip-take g m (slice a (a + most) key) (slice b (b + most) key)
+    zip_take g m (slice a (a + most) key) (slice b (b + most) key)
     ∙ ap₂ (zip_with g) (slice_front key a m most l ∙ ap (λ (n : ℕ). slice a (a + n) key) e ∙ p) (slice_front key b m most l ∙ ap (λ (n : ℕ). slice b (b + n) key) e ∙ q)
-    ∙ zip-map g f h v
+    ∙ zip_map g f h v
 
-channel-back : (c : Channel) → channel_in (channel_name c) (flag_number c) ≡ c
-channel-back c = go c.enabled c.lfe
+channel_back : (c : Channel) → channel_in (channel_name c) (flag_number c) ≡ c
+channel_back c = go c.enabled c.lfe
   where
     go : (a b : Bool) → channel_in c.name (bit a + 2 * bit b) ≡ record { name = c.name; enabled = a; lfe = b }
     go true true = refl
@@ -55,11 +55,11 @@ unfolding question5
 flat5 l =
     let cs = map layer_count (used_layers l) in
     let ns = map row_count (used_rows l) in
-    ap₂ ◌&&◌ (ap ordered (layers-z (used_layers l) (rows_of l.rows l.anchors)))
-    (layers-ordered (used_layers l) l.rows l.anchors
+    ap₂ ◌&&◌ (ap ordered (layers_z (used_layers l) (rows_of l.rows l.anchors)))
+    (layers_ordered_lem (used_layers l) l.rows l.anchors
     ∙ ap₂ (λ (p q : List (List Float)). all_of ordered p && all_of ordered q)
-    (sym (chunks-take cs (total cs) (map row_y l.rows) (omega arith)) ∙ ap (chunks cs) (sym (map-take row_y (total cs) l.rows)))
-    (sym (chunks-take ns (total ns) (map anchor_x l.anchors) (omega arith)) ∙ ap (chunks ns) (sym (map-take anchor_x (total ns) l.anchors))))
+    (sym (chunks_take cs (total cs) (map row_y l.rows) (omega arith)) ∙ ap (chunks cs) (sym (map_take row_y (total cs) l.rows)))
+    (sym (chunks_take ns (total ns) (map anchor_x l.anchors) (omega arith)) ∙ ap (chunks ns) (sym (map_take anchor_x (total ns) l.anchors))))
 
 -- ---- the layout in the key of a layout
 module _ (l : Layout) (s : Sized l) (e : ℕ) where
@@ -72,32 +72,32 @@ module _ (l : Layout) (s : Sized l) (e : ℕ) where
   reads : Reads l e key
   reads = key_reads l s e
 
-  used-is : u.used ≡ l.used
+  used_is : u.used ≡ l.used
   unfolding layout_in
-  used-is = reads.used
+  used_is = reads.used
 
   depth_is : u.depth ≡ l.depth
   unfolding layout_in
   depth_is = reads.depth
 
-  pub channels-are : l.used ≤ 24 → channels_of u ≡ channels_of l
+  pub channels_are : l.used ≤ 24 → channels_of u ≡ channels_of l
   unfolding layout_in
-  channels-are few =
+  channels_are few =
       let n : length (channels_of l) ≡ l.used = length-take-le l.used l.channels (omega (arith, s.channels, few)) in
       ap (λ (m : ℕ). take m u.channels) reads.used
       ∙ part_in channel_in channel_name flag_number key 0 24 l.used 24 (channels_of l) (sym n) few (ap (λ (m : ℕ). slice 0 m key) (zero-add (length (channels_of l))) ∙ reads.names) reads.flags
-      ∙ map-id (λ (x : Channel). channel_in (channel_name x) (flag_number x)) channel-back (channels_of l)
+      ∙ map-id (λ (x : Channel). channel_in (channel_name x) (flag_number x)) channel_back (channels_of l)
 
   module _ (shallow : l.depth ≤ 4) where
-    pub layers-are : used_layers u ≡ map (with_z back) (used_layers l)
+    pub layers_are : used_layers u ≡ map (with_z back) (used_layers l)
     unfolding layout_in
-    layers-are =
+    layers_are =
         let n : length (used_layers l) ≡ l.depth = length-take-le l.depth l.layers (omega (arith, s.layers, shallow)) in
         ap (λ (m : ℕ). take m u.layers) reads.depth
         ∙ part_in layer_in layer_count z_pattern key 48 100 l.depth 4 (used_layers l) (sym n) shallow reads.layer_counts reads.zs
 
-    counts-are : map layer_count (used_layers u) ≡ map layer_count (used_layers l)
-    counts-are = ap (map layer_count) layers-are ∙ sym (map-map (with_z back) layer_count (used_layers l))
+    counts_are : map layer_count (used_layers u) ≡ map layer_count (used_layers l)
+    counts_are = ap (map layer_count) layers_are ∙ sym (map-map (with_z back) layer_count (used_layers l))
 
     module _ (few_rows : total (map layer_count (used_layers l)) ≤ 24) where
       pub rows_are : used_rows u ≡ map (with_y back) (used_rows l)
@@ -105,36 +105,36 @@ module _ (l : Layout) (s : Sized l) (e : ℕ) where
       rows_are =
           let t = total (map layer_count (used_layers l)) in
           let n : length (used_rows l) ≡ t = length-take-le t l.rows (omega (arith, s.rows, few_rows)) in
-          ap (λ (v : List ℕ). take (total v) u.rows) counts-are
+          ap (λ (v : List ℕ). take (total v) u.rows) counts_are
           ∙ part_in row_in row_count y_pattern key 52 104 t 24 (used_rows l) (sym n) few_rows reads.row_counts reads.ys
 
-      row-counts-are : map row_count (used_rows u) ≡ map row_count (used_rows l)
-      row-counts-are = ap (map row_count) rows_are ∙ sym (map-map (with_y back) row_count (used_rows l))
+      row_counts_are : map row_count (used_rows u) ≡ map row_count (used_rows l)
+      row_counts_are = ap (map row_count) rows_are ∙ sym (map-map (with_y back) row_count (used_rows l))
 
       module _ (few_anchors : total (map row_count (used_rows l)) ≤ 24) where
-        pub anchors-are : used_anchors u ≡ map (with_x back) (used_anchors l)
+        pub anchors_are : used_anchors u ≡ map (with_x back) (used_anchors l)
         unfolding layout_in
-        anchors-are =
+        anchors_are =
             let t = total (map row_count (used_rows l)) in
             let n : length (used_anchors l) ≡ t = length-take-le t l.anchors (omega (arith, s.anchors, few_anchors)) in
-            ap (λ (v : List ℕ). take (total v) u.anchors) row-counts-are
+            ap (λ (v : List ℕ). take (total v) u.anchors) row_counts_are
             ∙ part_in anchor_in anchor_name x_pattern key 76 128 t 24 (used_anchors l) (sym n) few_anchors reads.anchor_names reads.xs
 
-        names-are : map anchor_name (used_anchors u) ≡ map anchor_name (used_anchors l)
-        names-are = ap (map anchor_name) anchors-are ∙ sym (map-map (with_x back) anchor_name (used_anchors l))
+        names_are : map anchor_name (used_anchors u) ≡ map anchor_name (used_anchors l)
+        names_are = ap (map anchor_name) anchors_are ∙ sym (map-map (with_x back) anchor_name (used_anchors l))
 
         module _ (zs : T (all_of (fits binary64) (map layer_z l.layers))) (ys : T (all_of (fits binary64) (map row_y l.rows))) (xs : T (all_of (fits binary64) (map anchor_x l.anchors))) where
           five : question5 u ≡ question5 l
           five =
               flat5 u
               ∙ ap₂ ◌&&◌
-              (ap ordered (ap (map layer_z) layers-are ∙ sym (map-map (with_z back) layer_z (used_layers l)) ∙ map-map layer_z back (used_layers l))
-              ∙ ordered-back (map layer_z (used_layers l)) (subst (λ (v : List Float). T (all_of (fits binary64) v)) (sym (map-take layer_z l.depth l.layers)) (all-taken (fits binary64) l.depth (map layer_z l.layers) zs)))
+              (ap ordered (ap (map layer_z) layers_are ∙ sym (map-map (with_z back) layer_z (used_layers l)) ∙ map-map layer_z back (used_layers l))
+              ∙ ordered_back (map layer_z (used_layers l)) (subst (λ (v : List Float). T (all_of (fits binary64) v)) (sym (map_take layer_z l.depth l.layers)) (all_taken (fits binary64) l.depth (map layer_z l.layers) zs)))
               (ap₂ ◌&&◌
-              (ap₂ (λ (cs : List ℕ) (v : List Float). all_of ordered (chunks cs v)) counts-are (ap (map row_y) rows_are ∙ sym (map-map (with_y back) row_y (used_rows l)) ∙ map-map row_y back (used_rows l))
-              ∙ chunks-back (map layer_count (used_layers l)) (map row_y (used_rows l)) (subst (λ (v : List Float). T (all_of (fits binary64) v)) (sym (map-take row_y (total (map layer_count (used_layers l))) l.rows)) (all-taken (fits binary64) (total (map layer_count (used_layers l))) (map row_y l.rows) ys)))
-              (ap₂ (λ (cs : List ℕ) (v : List Float). all_of ordered (chunks cs v)) row-counts-are (ap (map anchor_x) anchors-are ∙ sym (map-map (with_x back) anchor_x (used_anchors l)) ∙ map-map anchor_x back (used_anchors l))
-              ∙ chunks-back (map row_count (used_rows l)) (map anchor_x (used_anchors l)) (subst (λ (v : List Float). T (all_of (fits binary64) v)) (sym (map-take anchor_x (total (map row_count (used_rows l))) l.anchors)) (all-taken (fits binary64) (total (map row_count (used_rows l))) (map anchor_x l.anchors) xs))))
+              (ap₂ (λ (cs : List ℕ) (v : List Float). all_of ordered (chunks cs v)) counts_are (ap (map row_y) rows_are ∙ sym (map-map (with_y back) row_y (used_rows l)) ∙ map-map row_y back (used_rows l))
+              ∙ chunks_back (map layer_count (used_layers l)) (map row_y (used_rows l)) (subst (λ (v : List Float). T (all_of (fits binary64) v)) (sym (map_take row_y (total (map layer_count (used_layers l))) l.rows)) (all_taken (fits binary64) (total (map layer_count (used_layers l))) (map row_y l.rows) ys)))
+              (ap₂ (λ (cs : List ℕ) (v : List Float). all_of ordered (chunks cs v)) row_counts_are (ap (map anchor_x) anchors_are ∙ sym (map-map (with_x back) anchor_x (used_anchors l)) ∙ map-map anchor_x back (used_anchors l))
+              ∙ chunks_back (map row_count (used_rows l)) (map anchor_x (used_anchors l)) (subst (λ (v : List Float). T (all_of (fits binary64) v)) (sym (map_take anchor_x (total (map row_count (used_rows l))) l.anchors)) (all_taken (fits binary64) (total (map row_count (used_rows l))) (map anchor_x l.anchors) xs))))
               ∙ sym (flat5 l)
 
 -- ---- the six answers
@@ -166,14 +166,14 @@ module _ (l : Layout) (s : Sized l) (zs : T (all_of (fits binary64) (map layer_z
   one = go (from_to 1 24 l.used) refl
     where
       go : (b : Bool) → from_to 1 24 l.used ≡ b → question1 v ≡ question1 l
-      go false q = rw (used-is l s e, q)
-      go true q = ap₂ (λ (n : ℕ) (c : List Channel). from_to 1 24 n && all_of valid_name (map channel_name c) && all_distinct (map channel_name c)) (used-is l s e) (channels-are l s e (within 1 24 l.used q).1)
+      go false q = rw (used_is l s e, q)
+      go true q = ap₂ (λ (n : ℕ) (c : List Channel). from_to 1 24 n && all_of valid_name (map channel_name c) && all_distinct (map channel_name c)) (used_is l s e) (channels_are l s e (within 1 24 l.used q).1)
 
-  few-channels : question1 l ≡ true → l.used ≤ 24
-  few-channels q = (within 1 24 l.used (yes1 l q).0).1
+  few_channels_lem : question1 l ≡ true → l.used ≤ 24
+  few_channels_lem q = (within 1 24 l.used (yes1 l q).0).1
 
-  few-layers : question2 l ≡ true → l.depth ≤ 4
-  few-layers q = (within 1 4 l.depth q).1
+  few_layers_lem : question2 l ≡ true → l.depth ≤ 4
+  few_layers_lem q = (within 1 4 l.depth q).1
 
   abbrev cs : List ℕ
   cs = map layer_count (used_layers l)
@@ -183,7 +183,7 @@ module _ (l : Layout) (s : Sized l) (zs : T (all_of (fits binary64) (map layer_z
 
   rows_few : l.depth ≤ 4 → all_of (from_to 1 6) cs ≡ true → total cs ≤ 24
   rows_few h q =
-      let m = total-most cs q in
+      let m = total_most cs q in
       let n : length cs ≤ 4 = omega (arith, h, length-map (used_layers l) layer_count, length-take l.depth l.layers) in
       omega arith
 
@@ -192,29 +192,29 @@ module _ (l : Layout) (s : Sized l) (zs : T (all_of (fits binary64) (map layer_z
   four q = go (all_of (from_to 1 6) cs) refl
     where
       go : (b : Bool) → all_of (from_to 1 6) cs ≡ b → question4 v ≡ question4 l
-      go false p = rw (counts-are l s e (few-layers q), p)
-      go true p = ap₂ (λ (c n : List ℕ). all_of (from_to 1 6) c && all_of (leb 1) n && leb (total n) 24) (counts-are l s e (few-layers q)) (row-counts-are l s e (few-layers q) (rows_few (few-layers q) p))
+      go false p = rw (counts_are l s e (few_layers_lem q), p)
+      go true p = ap₂ (λ (c n : List ℕ). all_of (from_to 1 6) c && all_of (leb 1) n && leb (total n) 24) (counts_are l s e (few_layers_lem q)) (row_counts_are l s e (few_layers_lem q) (rows_few (few_layers_lem q) p))
 
   yes4 : question2 l ≡ true → question4 l ≡ true → (total cs ≤ 24) × (total ns ≤ 24)
   unfolding question4
   yes4 q f =
       let a = both (all_of (from_to 1 6) cs && all_of (leb 1) ns) (leb (total ns) 24) f in
       let b = both (all_of (from_to 1 6) cs) (all_of (leb 1) ns) a.0 in
-      (rows_few (few-layers q) b.0, leb-true (total ns) 24 a.1)
+      (rows_few (few_layers_lem q) b.0, leb-true (total ns) 24 a.1)
 
-  pub asked-same : first_no (layout_questions v) ≡ first_no (layout_questions l)
+  pub asked_same : first_no (layout_questions v) ≡ first_no (layout_questions l)
   unfolding question6
-  asked-same =
+  asked_same =
       asked_is v
       ∙ first _ _ _ _ _ _ (question1 l) (question2 l) (question3 l) (question4 l) (question5 l) (question6 l)
       one
       (ap (from_to 1 4) (depth_is l s e))
-      (λ p. ap (any_of active) (channels-are l s e (few-channels p)))
+      (λ p. ap (any_of active) (channels_are l s e (few_channels_lem p)))
       four
-      (λ q t. let f = yes4 q t in five l s e (few-layers q) f.0 f.1 zs ys xs)
-      (λ p q t. let f = yes4 q t in six p (few-layers q) f.0 f.1)
+      (λ q t. let f = yes4 q t in five l s e (few_layers_lem q) f.0 f.1 zs ys xs)
+      (λ p q t. let f = yes4 q t in six p (few_layers_lem q) f.0 f.1)
       ∙ sym (asked_is l)
     where
       six : question1 l ≡ true → (h : l.depth ≤ 4) (r : total cs ≤ 24) (a : total ns ≤ 24) → question6 v ≡ question6 l
       six p h r a =
-          ap₂ (λ (c : List Channel) (w : List ℕ). all_of (λ (n : ℕ). elem n (map channel_name (filtered active c))) w) (channels-are l s e (few-channels p)) (names-are l s e h r a)
+          ap₂ (λ (c : List Channel) (w : List ℕ). all_of (λ (n : ℕ). elem n (map channel_name (filtered active c))) w) (channels_are l s e (few_channels_lem p)) (names_are l s e h r a)

@@ -8,7 +8,7 @@ use borrow.Author.Tests.{eqb-true, ne_eqb}
 use lib.Dec.{eqb}
 use lib.ListN.{length, get_or}
 use lib.Seq.{slice, length-slice}
-use Rattle.lists.proofs.Zips.{zip_length, zip-firsts, zip-seconds}
+use Rattle.lists.proofs.Zips.{zip_length, zip_firsts, zip_seconds}
 use Rattle.layout.specs.declared.Layout.{Layout}
 use Rattle.layout.specs.Channels.{channel_name, active}
 use Rattle.layout.specs.Topology.{layer_count, layer_z, row_count, row_y, anchor_name, anchor_x}
@@ -16,8 +16,8 @@ use Rattle.layout.proofs.Sizes.{Sized}
 use Rattle.keys.specs.InKey.{double, channel_in, layer_in, row_in, anchor_in, layout_in}
 
 -- flags 1 say active
-flag-active : (name f : ℕ) → active (channel_in name f) ≡ eqb f 1
-flag-active name f = go (eqb f 1) (eqb f 2) (eqb f 3) refl refl refl
+flag_active : (name f : ℕ) → active (channel_in name f) ≡ eqb f 1
+flag_active name f = go (eqb f 1) (eqb f 2) (eqb f 3) refl refl refl
   where
     apart : (n : ℕ) → (n ≡ 1 → ⊥) → eqb f 1 ≡ true → eqb f n ≡ false
     apart n h e = ne_eqb f n (λ q. h (sym q ∙ eqb-true f 1 e))
@@ -43,45 +43,45 @@ module _ (key : List ℕ) (long : length key ≡ 156) where
   both24 : (a b : ℕ) → a + 24 ≤ 156 → b + 24 ≤ 156 → length (slice a (a + 24) key) ≡ length (slice b (b + 24) key)
   both24 a b h k = omega (arith, part a (a + 24) h, part b (b + 24) k)
 
-  pub used-is : l.used ≡ get_or key 152 0
+  pub used_is : l.used ≡ get_or key 152 0
   unfolding layout_in
-  used-is = refl
+  used_is = refl
 
   pub depth_is : l.depth ≡ get_or key 153 0
   unfolding layout_in
   depth_is = refl
 
-  pub names-are : map channel_name l.channels ≡ slice 0 24 key
+  pub names_are : map channel_name l.channels ≡ slice 0 24 key
   unfolding layout_in
-  names-are = zip-firsts channel_in channel_name (λ a b. refl) (slice 0 24 key) (slice 24 48 key) (both24 0 24 (omega arith) (omega arith))
+  names_are = zip_firsts channel_in channel_name (λ a b. refl) (slice 0 24 key) (slice 24 48 key) (both24 0 24 (omega arith) (omega arith))
 
-  pub actives-are : map active l.channels ≡ map (λ (f : ℕ). eqb f 1) (slice 24 48 key)
+  pub actives_are : map active l.channels ≡ map (λ (f : ℕ). eqb f 1) (slice 24 48 key)
   unfolding layout_in
-  actives-are = zip-seconds channel_in active (λ (f : ℕ). eqb f 1) flag-active (slice 0 24 key) (slice 24 48 key) (both24 0 24 (omega arith) (omega arith))
+  actives_are = zip_seconds channel_in active (λ (f : ℕ). eqb f 1) flag_active (slice 0 24 key) (slice 24 48 key) (both24 0 24 (omega arith) (omega arith))
 
-  pub layer-counts-are : map layer_count l.layers ≡ slice 48 52 key
+  pub layer_counts_are : map layer_count l.layers ≡ slice 48 52 key
   unfolding layout_in
-  layer-counts-are = zip-firsts layer_in layer_count (λ a b. refl) (slice 48 52 key) (slice 100 104 key) (omega (arith, part 48 52 (omega arith), part 100 104 (omega arith)))
+  layer_counts_are = zip_firsts layer_in layer_count (λ a b. refl) (slice 48 52 key) (slice 100 104 key) (omega (arith, part 48 52 (omega arith), part 100 104 (omega arith)))
 
-  pub zs-are : map layer_z l.layers ≡ map double (slice 100 104 key)
+  pub zs_are : map layer_z l.layers ≡ map double (slice 100 104 key)
   unfolding layout_in
-  zs-are = zip-seconds layer_in layer_z double (λ a b. refl) (slice 48 52 key) (slice 100 104 key) (omega (arith, part 48 52 (omega arith), part 100 104 (omega arith)))
+  zs_are = zip_seconds layer_in layer_z double (λ a b. refl) (slice 48 52 key) (slice 100 104 key) (omega (arith, part 48 52 (omega arith), part 100 104 (omega arith)))
 
-  pub row-counts-are : map row_count l.rows ≡ slice 52 76 key
+  pub row_counts_are : map row_count l.rows ≡ slice 52 76 key
   unfolding layout_in
-  row-counts-are = zip-firsts row_in row_count (λ a b. refl) (slice 52 76 key) (slice 104 128 key) (both24 52 104 (omega arith) (omega arith))
+  row_counts_are = zip_firsts row_in row_count (λ a b. refl) (slice 52 76 key) (slice 104 128 key) (both24 52 104 (omega arith) (omega arith))
 
-  pub ys-are : map row_y l.rows ≡ map double (slice 104 128 key)
+  pub ys_are : map row_y l.rows ≡ map double (slice 104 128 key)
   unfolding layout_in
-  ys-are = zip-seconds row_in row_y double (λ a b. refl) (slice 52 76 key) (slice 104 128 key) (both24 52 104 (omega arith) (omega arith))
+  ys_are = zip_seconds row_in row_y double (λ a b. refl) (slice 52 76 key) (slice 104 128 key) (both24 52 104 (omega arith) (omega arith))
 
-  pub anchor-names-are : map anchor_name l.anchors ≡ slice 76 100 key
+  pub anchor_names_are : map anchor_name l.anchors ≡ slice 76 100 key
   unfolding layout_in
-  anchor-names-are = zip-firsts anchor_in anchor_name (λ a b. refl) (slice 76 100 key) (slice 128 152 key) (both24 76 128 (omega arith) (omega arith))
+  anchor_names_are = zip_firsts anchor_in anchor_name (λ a b. refl) (slice 76 100 key) (slice 128 152 key) (both24 76 128 (omega arith) (omega arith))
 
-  pub xs-are : map anchor_x l.anchors ≡ map double (slice 128 152 key)
+  pub xs_are : map anchor_x l.anchors ≡ map double (slice 128 152 key)
   unfolding layout_in
-  xs-are = zip-seconds anchor_in anchor_x double (λ a b. refl) (slice 76 100 key) (slice 128 152 key) (both24 76 128 (omega arith) (omega arith))
+  xs_are = zip_seconds anchor_in anchor_x double (λ a b. refl) (slice 76 100 key) (slice 128 152 key) (both24 76 128 (omega arith) (omega arith))
 
   pub sized : Sized l
   unfolding layout_in

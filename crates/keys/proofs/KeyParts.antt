@@ -9,8 +9,8 @@ use lib.Seq.{paste, paste-zero, paste-suc, length-paste, length-take-le, set-app
 use Rattle.keys.specs.Steps.{two_parts}
 
 -- ---- what stands before a part is written apart from it
-pub paste-set : {A : Type 0} (d : List A) (at : ℕ) (s : List A) (j k : ℕ) (v : A) → k < at → at ≤ length d → set (paste d at s j) k v ≡ paste (set d k v) at s j
-paste-set d at s j k v h r =
+pub paste_set : {A : Type 0} (d : List A) (at : ℕ) (s : List A) (j k : ℕ) (v : A) → k < at → at ≤ length d → set (paste d at s j) k v ≡ paste (set d k v) at s j
+paste_set d at s j k v h r =
     let u : k < length (take at d) = rw (length-take-le at d r) h in
     let w : k < length (take at d ++ take j s) = rw length-append (omega arith) in
     rw (set-append_left (take at d ++ take j s) (drop (at + j) d) k v w, set-append_left (take at d) (take j s) k v u, take-set-lt at d k v h, drop-set-lt (at + j) d k v (omega arith))
@@ -51,10 +51,10 @@ module _ (a : ℕ) (xs : List ℕ) (b : ℕ) (ys : List ℕ) (n : ℕ) (old : Li
         room = w.room;
         long = length-set (set key j x) k y ∙ length-set key j x ∙ w.long;
         same =
-            rw (w.same, e, f, p, q, add-one i, paste-set (paste old a xs i) b ys i (a + i) (get_or xs i d) (omega arith) (omega arith), paste-suc old a xs i d (omega arith) (omega arith))
+            rw (w.same, e, f, p, q, add-one i, paste_set (paste old a xs i) b ys i (a + i) (get_or xs i d) (omega arith) (omega arith), paste-suc old a xs i d (omega arith) (omega arith))
             (paste-suc (paste old a xs (suc i)) b ys i z (omega arith) (omega arith));
       }
 
   -- at the end all are written
-  pub packed-done : (key : List ℕ) (i : ℕ) → Packed a xs b ys n old key i → n ≤ i → key ≡ two_parts a xs b ys n old
-  packed-done key i w h = let e : i ≡ n = omega arith in rw (← e) w.same
+  pub packed_done : (key : List ℕ) (i : ℕ) → Packed a xs b ys n old key i → n ≤ i → key ≡ two_parts a xs b ys n old
+  packed_done key i w h = let e : i ≡ n = omega arith in rw (← e) w.same

@@ -26,23 +26,23 @@ module _ {A : Type 0} (p : A → Bool) where
       yes_and (p x) (all_of p (xs ++ ys)) q.0 (all_append xs ys q.1 k)
 
   -- each of the parts, so each of what the parts cover
-  pub all-chunks : (cs : List ℕ) (xs : List A) → T (all_of (all_of p) (chunks cs xs)) → T (all_of p (take (total cs) xs))
-  all-chunks [] xs h = tt
-  all-chunks (c ∷ cs) xs h =
+  pub all_chunks : (cs : List ℕ) (xs : List A) → T (all_of (all_of p) (chunks cs xs)) → T (all_of p (take (total cs) xs))
+  all_chunks [] xs h = tt
+  all_chunks (c ∷ cs) xs h =
       let q = and_yes (all_of p (take c xs)) (all_of (all_of p) (chunks cs (drop c xs))) h in
-      rw (take-add c (total cs) xs) (all_append (take c xs) (take (total cs) (drop c xs)) q.0 (all-chunks cs (drop c xs) q.1))
+      rw (take-add c (total cs) xs) (all_append (take c xs) (take (total cs) (drop c xs)) q.0 (all_chunks cs (drop c xs) q.1))
 
-  pub all-taken : (n : ℕ) (xs : List A) → T (all_of p xs) → T (all_of p (take n xs))
-  all-taken zero xs h = tt
-  all-taken (suc n) [] h = tt
-  all-taken (suc n) (x ∷ xs) h =
+  pub all_taken : (n : ℕ) (xs : List A) → T (all_of p xs) → T (all_of p (take n xs))
+  all_taken zero xs h = tt
+  all_taken (suc n) [] h = tt
+  all_taken (suc n) (x ∷ xs) h =
       let q = and_yes (p x) (all_of p xs) h in
-      yes_and (p x) (all_of p (take n xs)) q.0 (all-taken n xs q.1)
+      yes_and (p x) (all_of p (take n xs)) q.0 (all_taken n xs q.1)
 
-  pub all-dropped : (n : ℕ) (xs : List A) → T (all_of p xs) → T (all_of p (drop n xs))
-  all-dropped zero xs h = h
-  all-dropped (suc n) [] h = tt
-  all-dropped (suc n) (x ∷ xs) h = all-dropped n xs (and_yes (p x) (all_of p xs) h).1
+  pub all_dropped : (n : ℕ) (xs : List A) → T (all_of p xs) → T (all_of p (drop n xs))
+  all_dropped zero xs h = h
+  all_dropped (suc n) [] h = tt
+  all_dropped (suc n) (x ∷ xs) h = all_dropped n xs (and_yes (p x) (all_of p xs) h).1
 
 -- a test follows from another
 pub all_map : {A B : Type 0} (p : A → Bool) (q : B → Bool) (f : A → B) → ((x : A) → T (p x) → T (q (f x))) → (xs : List A) → T (all_of p xs) → T (all_of q (map f xs))
@@ -51,15 +51,15 @@ all_map p q f s (x ∷ xs) h =
     let w = and_yes (p x) (all_of p xs) h in
     yes_and (q (f x)) (all_of q (map f xs)) (s x w.0) (all_map p q f s xs w.1)
 
-pub all-unmap : {A B : Type 0} (q : B → Bool) (f : A → B) (xs : List A) → T (all_of q (map f xs)) → T (all_of (λ (x : A). q (f x)) xs)
-all-unmap q f [] h = tt
-all-unmap {A = A} q f (x ∷ xs) h =
+pub all_unmap : {A B : Type 0} (q : B → Bool) (f : A → B) (xs : List A) → T (all_of q (map f xs)) → T (all_of (λ (x : A). q (f x)) xs)
+all_unmap q f [] h = tt
+all_unmap {A = A} q f (x ∷ xs) h =
     let w = and_yes (q (f x)) (all_of q (map f xs)) h in
-    yes_and (q (f x)) (all_of (λ (y : A). q (f y)) xs) w.0 (all-unmap q f xs w.1)
+    yes_and (q (f x)) (all_of (λ (y : A). q (f y)) xs) w.0 (all_unmap q f xs w.1)
 
 -- both of two tests
-pub all-and : {A : Type 0} (p q : A → Bool) (xs : List A) → T (all_of p xs) → T (all_of q xs) → T (all_of (λ (x : A). p x && q x) xs)
-all-and p q xs h k = rw (all_both p q xs) (yes_and (all_of p xs) (all_of q xs) h k)
+pub all_and : {A : Type 0} (p q : A → Bool) (xs : List A) → T (all_of p xs) → T (all_of q xs) → T (all_of (λ (x : A). p x && q x) xs)
+all_and p q xs h k = rw (all_both p q xs) (yes_and (all_of p xs) (all_of q xs) h k)
 
 -- ---- the flat lists and the topology
 abbrev rows_in : TopologyLayer → List TopologyRow
@@ -68,23 +68,23 @@ rows_in l = l.rows
 abbrev anchors_in : TopologyRow → List Anchor
 anchors_in r = r.anchors
 
-ys-of : (rs : List Row) (xs : List Anchor) → map topology_y (rows_of rs xs) ≡ map row_y rs
-ys-of [] xs = refl
-ys-of (r ∷ rs) xs = ap (λ (t : List Float). r.y ∷ t) (ys-of rs (drop r.count xs))
+ys_of : (rs : List Row) (xs : List Anchor) → map topology_y (rows_of rs xs) ≡ map row_y rs
+ys_of [] xs = refl
+ys_of (r ∷ rs) xs = ap (λ (t : List Float). r.y ∷ t) (ys_of rs (drop r.count xs))
 
-layers-chunks : (ls : List Layer) (rs : List TopologyRow) → map rows_in (layers_of ls rs) ≡ chunks (map layer_count ls) rs
-layers-chunks [] rs = refl
-layers-chunks (l ∷ ls) rs = ap (λ (t : List (List TopologyRow)). take l.count rs ∷ t) (layers-chunks ls (drop l.count rs))
+layers_chunks : (ls : List Layer) (rs : List TopologyRow) → map rows_in (layers_of ls rs) ≡ chunks (map layer_count ls) rs
+layers_chunks [] rs = refl
+layers_chunks (l ∷ ls) rs = ap (λ (t : List (List TopologyRow)). take l.count rs ∷ t) (layers_chunks ls (drop l.count rs))
 
-rows-chunks : (rs : List Row) (xs : List Anchor) → map anchors_in (rows_of rs xs) ≡ chunks (map row_count rs) xs
-rows-chunks [] xs = refl
-rows-chunks (r ∷ rs) xs = ap (λ (t : List (List Anchor)). take r.count xs ∷ t) (rows-chunks rs (drop r.count xs))
+rows_chunks : (rs : List Row) (xs : List Anchor) → map anchors_in (rows_of rs xs) ≡ chunks (map row_count rs) xs
+rows_chunks [] xs = refl
+rows_chunks (r ∷ rs) xs = ap (λ (t : List (List Anchor)). take r.count xs ∷ t) (rows_chunks rs (drop r.count xs))
 
-take-rows : (k : ℕ) (rs : List Row) (xs : List Anchor) → take k (rows_of rs xs) ≡ rows_of (take k rs) xs
-take-rows zero rs xs = refl
-take-rows (suc k) [] xs = refl
-take-rows (suc k) (r ∷ rs) xs =
-    ap (λ (t : List TopologyRow). record { y = r.y; anchors = take r.count xs } ∷ t) (take-rows k rs (drop r.count xs))
+take_rows : (k : ℕ) (rs : List Row) (xs : List Anchor) → take k (rows_of rs xs) ≡ rows_of (take k rs) xs
+take_rows zero rs xs = refl
+take_rows (suc k) [] xs = refl
+take_rows (suc k) (r ∷ rs) xs =
+    ap (λ (t : List TopologyRow). record { y = r.y; anchors = take r.count xs } ∷ t) (take_rows k rs (drop r.count xs))
 
 pub room_of_lem : (xs : List Float) → T (ordered xs) → T (all_of in_room xs)
 room_of_lem xs h = (and_yes (all_of in_room xs) (chain lt xs) h).0
@@ -99,17 +99,17 @@ module _ (l : Layout) (yes : T (question5 l)) where
   each_row : (p : TopologyRow → Bool) → ((t : TopologyLayer) → T (ordered_layer t) → T (all_of p t.rows)) → T (all_of p (rows_of (used_rows l) l.anchors))
   each_row p s =
       let h = all_map ordered_layer (all_of p) rows_in s (topology_of l) parts.1 in
-      rw (← take-rows (total (map layer_count (used_layers l))) l.rows l.anchors)
-      (all-chunks p (map layer_count (used_layers l)) (rows_of l.rows l.anchors) (rw layers-chunks at h))
+      rw (← take_rows (total (map layer_count (used_layers l))) l.rows l.anchors)
+      (all_chunks p (map layer_count (used_layers l)) (rows_of l.rows l.anchors) (rw layers_chunks at h))
 
-  pub ys-in-room : T (all_of in_room (map row_y (used_rows l)))
-  ys-in-room =
-      let h = each_row (λ (r : TopologyRow). in_room (topology_y r)) (λ t q. all-unmap in_room topology_y t.rows (room_of_lem (map topology_y t.rows) (and_yes (ordered (map topology_y t.rows)) (all_of ordered_row t.rows) q).0)) in
-      rw ys-of at (all_map (λ (r : TopologyRow). in_room (topology_y r)) in_room topology_y (λ r q. q) (rows_of (used_rows l) l.anchors) h)
+  pub ys_in_room : T (all_of in_room (map row_y (used_rows l)))
+  ys_in_room =
+      let h = each_row (λ (r : TopologyRow). in_room (topology_y r)) (λ t q. all_unmap in_room topology_y t.rows (room_of_lem (map topology_y t.rows) (and_yes (ordered (map topology_y t.rows)) (all_of ordered_row t.rows) q).0)) in
+      rw ys_of at (all_map (λ (r : TopologyRow). in_room (topology_y r)) in_room topology_y (λ r q. q) (rows_of (used_rows l) l.anchors) h)
 
-  pub xs-in-room : T (all_of in_room (map anchor_x (used_anchors l)))
-  xs-in-room =
+  pub xs_in_room : T (all_of in_room (map anchor_x (used_anchors l)))
+  xs_in_room =
       let p : Anchor → Bool = λ a. in_room (anchor_x a) in
       let h = each_row ordered_row (λ t q. (and_yes (ordered (map topology_y t.rows)) (all_of ordered_row t.rows) q).1) in
-      let k = all_map ordered_row (all_of p) anchors_in (λ r q. all-unmap in_room anchor_x r.anchors (room_of_lem (map anchor_x r.anchors) q)) (rows_of (used_rows l) l.anchors) h in
-      all_map p in_room anchor_x (λ a q. q) (used_anchors l) (all-chunks p (map row_count (used_rows l)) l.anchors (rw rows-chunks at k))
+      let k = all_map ordered_row (all_of p) anchors_in (λ r q. all_unmap in_room anchor_x r.anchors (room_of_lem (map anchor_x r.anchors) q)) (rows_of (used_rows l) l.anchors) h in
+      all_map p in_room anchor_x (λ a q. q) (used_anchors l) (all_chunks p (map row_count (used_rows l)) l.anchors (rw rows_chunks at k))

@@ -18,20 +18,20 @@ use Rattle.layout.specs.Steps.Starts.{row_starts, anchor_starts, no_row, no_laye
 use Rattle.layout.specs.Questions.{first_no, layout_questions, question1, question2, question3, question4, question5, question6, from_to, ordered, ordered_layer, topology_z}
 use Rattle.layout.specs.Steps.Counts.{parts_ordered}
 use Rattle.layout.specs.Steps.Accepted.{Accepted}
-use Rattle.layout.proofs.TopologyStarts.{start-sum}
-use Rattle.layout.proofs.StartsFrom.{starts-length}
+use Rattle.layout.proofs.TopologyStarts.{start_sum}
+use Rattle.layout.proofs.StartsFrom.{starts_length}
 use Rattle.layout.proofs.ActiveNames.{count_most}
-use Rattle.layout.proofs.QuestionsCounted.{both, within, total-most}
-use Rattle.layout.proofs.QuestionsLoops.{holds, all-at}
-use Rattle.layout.proofs.QuestionsNamed.{any-count}
-use Rattle.layout.proofs.QuestionsOrdered.{question5-flat}
+use Rattle.layout.proofs.QuestionsCounted.{both, within, total_most}
+use Rattle.layout.proofs.QuestionsLoops.{holds, all_at}
+use Rattle.layout.proofs.QuestionsNamed.{any_count}
+use Rattle.layout.proofs.QuestionsOrdered.{question5_flat}
 
 -- ---- a test of each, of one
 
 -- of what a function made of the first n
-pub all-map-at : {A B : Type 0} (p : B → Bool) (f : A → B) (n : ℕ) (l : List A) (i : ℕ) (d : A) → all_of p (map f (take n l)) ≡ true → i < length (take n l) → i < n → p (f (get_or l i d)) ≡ true
-all-map-at p f n l i d e h k =
-    rw (← get_or-take n l i d k, ← get_or-map f (take n l) i d) (all-at p (map f (take n l)) i (f d) e (rw (length-map (take n l) f) h))
+pub all_map_at : {A B : Type 0} (p : B → Bool) (f : A → B) (n : ℕ) (l : List A) (i : ℕ) (d : A) → all_of p (map f (take n l)) ≡ true → i < length (take n l) → i < n → p (f (get_or l i d)) ≡ true
+all_map_at p f n l i d e h k =
+    rw (← get_or-take n l i d k, ← get_or-map f (take n l) i d) (all_at p (map f (take n l)) i (f d) e (rw (length-map (take n l) f) h))
 
 -- of the parts between starts, and of the first n of them
 part_in : (xs : List Float) (starts : List ℕ) (i : ℕ) → parts_ordered xs starts ≡ true → suc i < length starts → ordered (slice (get_or starts i 0) (get_or starts (suc i) 0) xs) ≡ true
@@ -50,19 +50,19 @@ part_at xs starts n i e h k =
 abbrev Yes : Layout → Type 0
 Yes l = (question1 l ≡ true) × (question2 l ≡ true) × (question3 l ≡ true) × (question4 l ≡ true) × (question5 l ≡ true) × (question6 l ≡ true)
 
-yes-then : (b : Bool) (n k : ℕ) → cond b n (suc k) ≡ 0 → (b ≡ true) × (n ≡ 0)
-yes-then true n k e = (refl, e)
-yes-then false n k e = absurd (omega arith)
+yes_then : (b : Bool) (n k : ℕ) → cond b n (suc k) ≡ 0 → (b ≡ true) × (n ≡ 0)
+yes_then true n k e = (refl, e)
+yes_then false n k e = absurd (omega arith)
 
 pub all_yes : (l : Layout) → first_no (layout_questions l) ≡ 0 → Yes l
 unfolding layout_questions
 all_yes l e =
-    let a = yes-then (question1 l) _ _ e in
-    let b = yes-then (question2 l) _ _ a.1 in
-    let c = yes-then (question3 l) _ _ b.1 in
-    let d = yes-then (question4 l) _ _ c.1 in
-    let f = yes-then (question5 l) _ _ d.1 in
-    let g = yes-then (question6 l) _ _ f.1 in
+    let a = yes_then (question1 l) _ _ e in
+    let b = yes_then (question2 l) _ _ a.1 in
+    let c = yes_then (question3 l) _ _ b.1 in
+    let d = yes_then (question4 l) _ _ c.1 in
+    let f = yes_then (question5 l) _ _ d.1 in
+    let g = yes_then (question6 l) _ _ f.1 in
     (a.0, b.0, c.0, d.0, f.0, g.0)
 
 -- ---- what each answer says
@@ -77,7 +77,7 @@ module _ (l : Layout) where
 
   yes3 : question3 l ≡ true → 1 ≤ active_count l
   yes3 e =
-      let n = not-true (eqb (active_count l) 0) (sym (any-count active channel_name (channels_of l)) ∙ e) in
+      let n = not-true (eqb (active_count l) 0) (sym (any_count active channel_name (channels_of l)) ∙ e) in
       let f = eqb-false (active_count l) 0 n in
       omega arith
 
@@ -113,14 +113,14 @@ module _ (l : Layout) (channels : length l.channels ≡ 24) (layers : length l.l
       let q5 = yes5 l y.4 in
       let q6 = yes6 l y.5 in
       let depth_is : length (used_layers l) ≡ l.depth = length-take-le l.depth l.layers (omega arith) in
-      let few : total cs ≤ 24 = let m = total-most cs q4.0 in let n = length-map (used_layers l) layer_count in omega arith in
+      let few : total cs ≤ 24 = let m = total_most cs q4.0 in let n = length-map (used_layers l) layer_count in omega arith in
       let rows_are : length (used_rows l) ≡ total cs = length-take-le (total cs) l.rows (omega arith) in
-      let anchors-are : length (used_anchors l) ≡ total ns = length-take-le (total ns) l.anchors (omega arith) in
-      let flat = question5-flat l layers rows anchors depth.1 ∙ y.4 in
+      let anchors_are : length (used_anchors l) ≡ total ns = length-take-le (total ns) l.anchors (omega arith) in
+      let flat = question5_flat l layers rows anchors depth.1 ∙ y.4 in
       let p = both (ordered (take l.depth (map layer_z l.layers)) && parts_ordered (map row_y l.rows) (take (l.depth + 1) (row_starts l))) (parts_ordered (map anchor_x l.anchors) (take (length (used_rows l) + 1) (anchor_starts l))) flat in
       let zy = both (ordered (take l.depth (map layer_z l.layers))) (parts_ordered (map row_y l.rows) (take (l.depth + 1) (row_starts l))) p.0 in
       let count : (i : ℕ) → i < l.depth → (1 ≤ (get_or l.layers i no_layer).count) × ((get_or l.layers i no_layer).count ≤ 6) =
-      λ i h. within 1 6 (get_or l.layers i no_layer).count (all-map-at (from_to 1 6) layer_count l.depth l.layers i no_layer q4.0 (omega arith) h) in
+      λ i h. within 1 6 (get_or l.layers i no_layer).count (all_map_at (from_to 1 6) layer_count l.depth l.layers i no_layer q4.0 (omega arith) h) in
       record {
         some_channels = used.0;
         few_channels = used.1;
@@ -130,19 +130,19 @@ module _ (l : Layout) (channels : length l.channels ≡ 24) (layers : length l.l
         few_active = count_most l channels;
         some_rows = λ i h. (count i h).0;
         few_rows = λ i h. (count i h).1;
-        some_anchors = λ i h. leb-true 1 (get_or l.rows i no_row).count (all-map-at (leb 1) row_count (total cs) l.rows i no_row q4.1 h (omega arith));
+        some_anchors = λ i h. leb-true 1 (get_or l.rows i no_row).count (all_map_at (leb 1) row_count (total cs) l.rows i no_row q4.1 h (omega arith));
         most_rows = omega arith;
         most_anchors = omega arith;
         row_total = rows_are;
-        anchor_total = anchors-are;
-        row_start = λ i h. start-sum layer_count l.layers i l.depth h (omega arith) few;
-        anchor_start = λ i h. start-sum row_count l.rows i (total cs) (omega arith) (omega arith) q4.2;
+        anchor_total = anchors_are;
+        row_start = λ i h. start_sum layer_count l.layers i l.depth h (omega arith) few;
+        anchor_start = λ i h. start_sum row_count l.rows i (total cs) (omega arith) (omega arith) q4.2;
         z_ordered = holds _ q5.0;
         layers_ordered = holds _ q5.1;
         zs_ordered = holds _ zy.0;
-        ys_ordered = λ i h. holds _ (part_at (map row_y l.rows) (row_starts l) l.depth i zy.1 h (rw (starts-length 0 (map layer_count l.layers), length-map l.layers layer_count) (omega arith)));
-        xs_ordered = λ i h. holds _ (part_at (map anchor_x l.anchors) (anchor_starts l) (length (used_rows l)) i p.1 h (rw (starts-length 0 (map row_count l.rows), length-map l.rows row_count) (omega arith)));
-        anchor_active = λ i h. holds _ (all-map-at (λ (n : ℕ). elem n (active_names l)) anchor_name (total ns) l.anchors i no_anchor q6 h (omega arith));
+        ys_ordered = λ i h. holds _ (part_at (map row_y l.rows) (row_starts l) l.depth i zy.1 h (rw (starts_length 0 (map layer_count l.layers), length-map l.layers layer_count) (omega arith)));
+        xs_ordered = λ i h. holds _ (part_at (map anchor_x l.anchors) (anchor_starts l) (length (used_rows l)) i p.1 h (rw (starts_length 0 (map row_count l.rows), length-map l.rows row_count) (omega arith)));
+        anchor_active = λ i h. holds _ (all_map_at (λ (n : ℕ). elem n (active_names l)) anchor_name (total ns) l.anchors i no_anchor q6 h (omega arith));
         channels_valid = holds _ q1.1;
         channels_distinct = holds _ q1.2;
       }

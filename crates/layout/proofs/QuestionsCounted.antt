@@ -39,12 +39,12 @@ outside a b n = ap₂ ◌||◌ (below a n) (below n b) ∙ neither (leb a n) (le
     neither false u = refl
 
 -- n counts from 1 to 6 make at most 6 n
-pub total-most : (cs : List ℕ) → all_of (from_to 1 6) cs ≡ true → total cs ≤ length cs * 6
-total-most [] e = omega arith
-total-most (c ∷ cs) e =
+pub total_most : (cs : List ℕ) → all_of (from_to 1 6) cs ≡ true → total cs ≤ length cs * 6
+total_most [] e = omega arith
+total_most (c ∷ cs) e =
     let p = both (from_to 1 6 c) (all_of (from_to 1 6) cs) e in
     let q = within 1 6 c p.0 in
-    let r = total-most cs p.1 in
+    let r = total_most cs p.1 in
     omega arith
 
 -- ---- `counted_to`, for a test b and a sum t
@@ -66,28 +66,28 @@ same_test false true t f = sym (above t (λ h. false≢true (f h)))
 same_test false false t f = refl
 
 -- counts whose sum is at most 24 are at most 24
-each-few : (cs : List ℕ) → total cs ≤ 24 → all_of (from_to 1 24) cs ≡ all_of (leb 1) cs
-each-few [] h = refl
-each-few (c ∷ cs) h =
-    ap₂ ◌&&◌ (ap (λ (b : Bool). leb 1 c && b) (le-leb c 24 (omega arith)) ∙ and-true (leb 1 c)) (each-few cs (omega arith))
+each_few : (cs : List ℕ) → total cs ≤ 24 → all_of (from_to 1 24) cs ≡ all_of (leb 1) cs
+each_few [] h = refl
+each_few (c ∷ cs) h =
+    ap₂ ◌&&◌ (ap (λ (b : Bool). leb 1 c && b) (le-leb c 24 (omega arith)) ∙ and-true (leb 1 c)) (each_few cs (omega arith))
 
 -- ---- the question
 module _ (l : Layout) where
   -- four layers of 1 to 6 rows have at most 24
-  pub question4-not : l.depth ≤ 4 → 24 < counted_to 6 (map layer_count (used_layers l)) → false ≡ question4 l
+  pub question4_not : l.depth ≤ 4 → 24 < counted_to 6 (map layer_count (used_layers l)) → false ≡ question4 l
   unfolding question4
-  question4-not h k =
+  question4_not h k =
       let cs = map layer_count (used_layers l) in
       let n = length-map (used_layers l) layer_count ∙ length-take l.depth l.layers in
-      let e = large (all_of (from_to 1 6) cs) (total cs) (λ a. let m = total-most cs a in omega arith) k in
+      let e = large (all_of (from_to 1 6) cs) (total cs) (λ a. let m = total_most cs a in omega arith) k in
       rw e
 
-  pub question4-is : (rows : ℕ) → rows ≡ counted_to 6 (map layer_count (used_layers l)) → rows ≤ 24 → leb (counted_to 24 (map row_count (take rows l.rows))) 24 ≡ question4 l
+  pub question4_is : (rows : ℕ) → rows ≡ counted_to 6 (map layer_count (used_layers l)) → rows ≤ 24 → leb (counted_to 24 (map row_count (take rows l.rows))) 24 ≡ question4 l
   unfolding question4
-  question4-is rows e h =
+  question4_is rows e h =
       let cs = map layer_count (used_layers l) in
       let s = small (all_of (from_to 1 6) cs) (total cs) (omega arith) in
       let ns = map row_count (used_rows l) in
       ap (λ (n : ℕ). leb (counted_to 24 (map row_count (take n l.rows))) 24) (e ∙ s.1)
-      ∙ same_test (all_of (from_to 1 24) ns) (all_of (leb 1) ns) (total ns) (each-few ns)
+      ∙ same_test (all_of (from_to 1 24) ns) (all_of (leb 1) ns) (total ns) (each_few ns)
       ∙ rw s.0

@@ -5,30 +5,30 @@ use Rattle.layout.specs.declared.Layout.{Layout}
 use Rattle.layout.specs.Questions.{first_no, layout_questions, question1, question2, question3, question4, question5, question6}
 
 module _ (l : Layout) where
-  pub first-1 : question1 l ≡ false → 1 ≡ first_no (layout_questions l)
+  pub first_1 : question1 l ≡ false → 1 ≡ first_no (layout_questions l)
   unfolding layout_questions
-  first-1 a = rw a
+  first_1 a = rw a
 
-  pub first-2 : question1 l ≡ true → question2 l ≡ false → 2 ≡ first_no (layout_questions l)
+  pub first_2 : question1 l ≡ true → question2 l ≡ false → 2 ≡ first_no (layout_questions l)
   unfolding layout_questions
-  first-2 a b = rw (a, b)
+  first_2 a b = rw (a, b)
 
-  pub first-3 : question1 l ≡ true → question2 l ≡ true → question3 l ≡ false → 3 ≡ first_no (layout_questions l)
+  pub first_3 : question1 l ≡ true → question2 l ≡ true → question3 l ≡ false → 3 ≡ first_no (layout_questions l)
   unfolding layout_questions
-  first-3 a b c = rw (a, b, c)
+  first_3 a b c = rw (a, b, c)
 
-  pub first-4 : question1 l ≡ true → question2 l ≡ true → question3 l ≡ true → question4 l ≡ false → 4 ≡ first_no (layout_questions l)
+  pub first_4 : question1 l ≡ true → question2 l ≡ true → question3 l ≡ true → question4 l ≡ false → 4 ≡ first_no (layout_questions l)
   unfolding layout_questions
-  first-4 a b c d = rw (a, b, c, d)
+  first_4 a b c d = rw (a, b, c, d)
 
-  pub first-5 : question1 l ≡ true → question2 l ≡ true → question3 l ≡ true → question4 l ≡ true → question5 l ≡ false → 5 ≡ first_no (layout_questions l)
+  pub first_5 : question1 l ≡ true → question2 l ≡ true → question3 l ≡ true → question4 l ≡ true → question5 l ≡ false → 5 ≡ first_no (layout_questions l)
   unfolding layout_questions
-  first-5 a b c d e = rw (a, b, c, d, e)
+  first_5 a b c d e = rw (a, b, c, d, e)
 
-  pub first-6 : question1 l ≡ true → question2 l ≡ true → question3 l ≡ true → question4 l ≡ true → question5 l ≡ true → question6 l ≡ false → 6 ≡ first_no (layout_questions l)
+  pub first_6 : question1 l ≡ true → question2 l ≡ true → question3 l ≡ true → question4 l ≡ true → question5 l ≡ true → question6 l ≡ false → 6 ≡ first_no (layout_questions l)
   unfolding layout_questions
-  first-6 a b c d e f = rw (a, b, c, d, e, f)
+  first_6 a b c d e f = rw (a, b, c, d, e, f)
 
-  pub first-none : question1 l ≡ true → question2 l ≡ true → question3 l ≡ true → question4 l ≡ true → question5 l ≡ true → question6 l ≡ true → 0 ≡ first_no (layout_questions l)
+  pub first_none : question1 l ≡ true → question2 l ≡ true → question3 l ≡ true → question4 l ≡ true → question5 l ≡ true → question6 l ≡ true → 0 ≡ first_no (layout_questions l)
   unfolding layout_questions
-  first-none a b c d e f = rw (a, b, c, d, e, f)
+  first_none a b c d e f = rw (a, b, c, d, e, f)

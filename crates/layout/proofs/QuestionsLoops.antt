@@ -11,11 +11,11 @@ use Rattle.layout.proofs.QuestionsCounted.{both}
 
 -- ---- a test of each
 module _ {A : Type 0} (p : A → Bool) (l : List A) (x : A) (xs : List A) (e : l ≡ x ∷ xs) where
-  pub all-not : p x ≡ false → all_of p l ≡ false
-  all-not q = rw (e, q)
+  pub all_not : p x ≡ false → all_of p l ≡ false
+  all_not q = rw (e, q)
 
-  pub all-next : p x ≡ true → all_of p l ≡ all_of p xs
-  all-next q = rw (e, q)
+  pub all_next : p x ≡ true → all_of p l ≡ all_of p xs
+  all_next q = rw (e, q)
 
 -- a test as a fact
 pub holds : (b : Bool) → b ≡ true → T b
@@ -26,15 +26,15 @@ is_true true t = refl
 is_true false t = absurd t
 
 -- of one
-pub all-at : {A : Type 0} (p : A → Bool) (l : List A) (i : ℕ) (d : A) → all_of p l ≡ true → i < length l → p (get_or l i d) ≡ true
-all-at p [] i d e h = absurd (omega arith)
-all-at p (x ∷ l) zero d e h = (both (p x) (all_of p l) e).0
-all-at p (x ∷ l) (suc i) d e h = all-at p l i d (both (p x) (all_of p l) e).1 (omega arith)
+pub all_at : {A : Type 0} (p : A → Bool) (l : List A) (i : ℕ) (d : A) → all_of p l ≡ true → i < length l → p (get_or l i d) ≡ true
+all_at p [] i d e h = absurd (omega arith)
+all_at p (x ∷ l) zero d e h = (both (p x) (all_of p l) e).0
+all_at p (x ∷ l) (suc i) d e h = all_at p l i d (both (p x) (all_of p l) e).1 (omega arith)
 
 -- ---- the index of a name
-pub place-most : (x : ℕ) (l : List ℕ) → index_of x l ≤ length l
-place-most x [] = omega arith
-place-most x (y ∷ l) = go (eqb y x) (place-most x l)
+pub place_most : (x : ℕ) (l : List ℕ) → index_of x l ≤ length l
+place_most x [] = omega arith
+place_most x (y ∷ l) = go (eqb y x) (place_most x l)
   where
     go : (b : Bool) → index_of x l ≤ length l → cond b 0 (1 + index_of x l) ≤ suc (length l)
     go true h = omega arith

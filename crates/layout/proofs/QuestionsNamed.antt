@@ -10,15 +10,15 @@ use Rattle.layout.specs.declared.Layout.{Layout}
 use Rattle.layout.specs.Questions.{from_to, question1}
 
 -- some pass where those that pass are not none
-pub any-count : {A : Type 0} (p : A → Bool) (f : A → ℕ) (l : List A) → any_of p l ≡ not (eqb (length (map f (filtered p l))) 0)
-any-count p f [] = refl
-any-count p f (x ∷ l) = go (p x) (any-count p f l)
+pub any_count : {A : Type 0} (p : A → Bool) (f : A → ℕ) (l : List A) → any_of p l ≡ not (eqb (length (map f (filtered p l))) 0)
+any_count p f [] = refl
+any_count p f (x ∷ l) = go (p x) (any_count p f l)
   where
     go : (b : Bool) → any_of p l ≡ not (eqb (length (map f (filtered p l))) 0) → (b || any_of p l) ≡ not (eqb (length (map f (cond b (x ∷ filtered p l) (filtered p l)))) 0)
     go true e = sym (ap not (eqb-suc-zero (length (map f (filtered p l)))))
     go false e = e
 
 module _ (l : Layout) where
-  pub question1-not : from_to 1 24 l.used ≡ false → false ≡ question1 l
+  pub question1_not : from_to 1 24 l.used ≡ false → false ≡ question1 l
   unfolding question1
-  question1-not h = rw h
+  question1_not h = rw h

@@ -8,7 +8,7 @@ use native.Mathlib.Omega.{arith}
 use lib.Ieee.{Float}
 use lib.ListN.{length, take, length-map, length-take}
 use Rattle.lists.specs.Lists.{all_of, chunks, total}
-use Rattle.lists.proofs.Takes.{map-take}
+use Rattle.lists.proofs.Takes.{map_take}
 use Rattle.layout.specs.declared.Anchor.{Anchor}
 use Rattle.layout.specs.declared.Row.{Row}
 use Rattle.layout.specs.declared.Layer.{Layer}
@@ -17,66 +17,66 @@ use Rattle.layout.specs.Topology.{TopologyRow, rows_of, layers_of, used_layers, 
 use Rattle.layout.specs.Steps.Starts.{starts_from, row_starts, anchor_starts}
 use Rattle.layout.specs.Questions.{ordered, ordered_row, ordered_layer, question5, topology_y}
 use Rattle.layout.specs.Steps.Counts.{parts_ordered}
-use Rattle.layout.proofs.TopologyLists.{all_both, all_map, all-concat, map-chunks, concat-chunks, take-taken}
-use Rattle.layout.proofs.TopologyStarts.{topology_anchors, topology_rows, rows-y, rows-anchors, rows_take, layers-z, layers-rows, parts, starts-parts, starts-take}
+use Rattle.layout.proofs.TopologyLists.{all_both, all_map, all_concat, map_chunks, concat_chunks, take_taken}
+use Rattle.layout.proofs.TopologyStarts.{topology_anchors, topology_rows, rows_y, rows_anchors, rows_take, layers_z, layers_rows, parts, starts_parts, starts_take}
 
 -- each part between starts
-pub parts-ordered : (xs : List Float) (starts : List ℕ) → parts_ordered xs starts ≡ all_of ordered (parts starts xs)
+pub parts_ordered_lem : (xs : List Float) (starts : List ℕ) → parts_ordered xs starts ≡ all_of ordered (parts starts xs)
 unfolding parts_ordered
-parts-ordered xs [] = refl
-parts-ordered xs (a ∷ []) = refl
-parts-ordered xs (a ∷ b ∷ starts) = rw (parts-ordered xs (b ∷ starts))
+parts_ordered_lem xs [] = refl
+parts_ordered_lem xs (a ∷ []) = refl
+parts_ordered_lem xs (a ∷ b ∷ starts) = rw (parts_ordered_lem xs (b ∷ starts))
 
 -- the x of each row
-pub rows-ordered : (rs : List Row) (xs : List Anchor) → all_of ordered_row (rows_of rs xs) ≡ all_of ordered (chunks (map row_count rs) (map anchor_x xs))
-rows-ordered rs xs =
+pub rows_ordered : (rs : List Row) (xs : List Anchor) → all_of ordered_row (rows_of rs xs) ≡ all_of ordered (chunks (map row_count rs) (map anchor_x xs))
+rows_ordered rs xs =
     all_map topology_anchors (λ (l : List Anchor). ordered (map anchor_x l)) (rows_of rs xs)
-    ∙ ap (all_of (λ (l : List Anchor). ordered (map anchor_x l))) (rows-anchors rs xs)
+    ∙ ap (all_of (λ (l : List Anchor). ordered (map anchor_x l))) (rows_anchors rs xs)
     ∙ all_map (map anchor_x) ordered (chunks (map row_count rs) xs)
-    ∙ ap (all_of ordered) (map-chunks anchor_x (map row_count rs) xs)
+    ∙ ap (all_of ordered) (map_chunks anchor_x (map row_count rs) xs)
 
 -- the y of each layer's rows, and the x of each of their rows
-pub layers-ordered : (ls : List Layer) (rs : List Row) (xs : List Anchor) →
+pub layers_ordered_lem : (ls : List Layer) (rs : List Row) (xs : List Anchor) →
     all_of ordered_layer (layers_of ls (rows_of rs xs))
     ≡ (all_of ordered (chunks (map layer_count ls) (map row_y rs)) && all_of ordered (chunks (map row_count (take (total (map layer_count ls)) rs)) (map anchor_x xs)))
-layers-ordered ls rs xs =
+layers_ordered_lem ls rs xs =
     let cs = map layer_count ls in
     let ts = rows_of rs xs in
     let y : List TopologyRow → Bool = λ l. ordered (map topology_y l) in
     all_map topology_rows (λ (l : List TopologyRow). y l && all_of ordered_row l) (layers_of ls ts)
-    ∙ ap (all_of (λ (l : List TopologyRow). y l && all_of ordered_row l)) (layers-rows ls ts)
+    ∙ ap (all_of (λ (l : List TopologyRow). y l && all_of ordered_row l)) (layers_rows ls ts)
     ∙ all_both y (all_of ordered_row) (chunks cs ts)
     ∙ ap₂ ◌&&◌
-    (all_map (map topology_y) ordered (chunks cs ts) ∙ ap (all_of ordered) (map-chunks topology_y cs ts ∙ ap (chunks cs) (rows-y rs xs)))
-    (all-concat ordered_row (chunks cs ts) ∙ ap (all_of ordered_row) (concat-chunks cs ts ∙ rows_take (total cs) rs xs) ∙ rows-ordered (take (total cs) rs) xs)
+    (all_map (map topology_y) ordered (chunks cs ts) ∙ ap (all_of ordered) (map_chunks topology_y cs ts ∙ ap (chunks cs) (rows_y rs xs)))
+    (all_concat ordered_row (chunks cs ts) ∙ ap (all_of ordered_row) (concat_chunks cs ts ∙ rows_take (total cs) rs xs) ∙ rows_ordered (take (total cs) rs) xs)
 
 -- the first n parts by counts are those between the first n + 1 starts
-pub parts-flat : {A : Type 0} (count : A → ℕ) (n : ℕ) (l : List A) (xs : List Float) → n ≤ length l → length xs ≤ 24 →
+pub parts_flat : {A : Type 0} (count : A → ℕ) (n : ℕ) (l : List A) (xs : List Float) → n ≤ length l → length xs ≤ 24 →
     all_of ordered (chunks (map count (take n l)) xs) ≡ parts_ordered xs (take (n + 1) (starts_from 0 (map count l)))
-parts-flat count n l xs h k =
+parts_flat count n l xs h k =
     ap (all_of ordered)
-    (starts-parts (map count (take n l)) 0 xs k
+    (starts_parts (map count (take n l)) 0 xs k
     ∙ ap (λ (s : List ℕ). parts s xs)
-    (ap (starts_from 0) (map-take count n l) ∙ starts-take n (map count l) 0 (rw (length-map l count) h) ∙ ap (λ (m : ℕ). take m (starts_from 0 (map count l))) (sym (add-one n))))
-    ∙ sym (parts-ordered xs (take (n + 1) (starts_from 0 (map count l))))
+    (ap (starts_from 0) (map_take count n l) ∙ starts_take n (map count l) 0 (rw (length-map l count) h) ∙ ap (λ (m : ℕ). take m (starts_from 0 (map count l))) (sym (add-one n))))
+    ∙ sym (parts_ordered_lem xs (take (n + 1) (starts_from 0 (map count l))))
 
 -- what the three parts of the code answer, together
-pub question5-flat : (l : Layout) → length l.layers ≡ 4 → length l.rows ≡ 24 → length l.anchors ≡ 24 → l.depth ≤ 4 →
+pub question5_flat : (l : Layout) → length l.layers ≡ 4 → length l.rows ≡ 24 → length l.anchors ≡ 24 → l.depth ≤ 4 →
     (ordered (take l.depth (map layer_z l.layers))
     && parts_ordered (map row_y l.rows) (take (l.depth + 1) (row_starts l))
     && parts_ordered (map anchor_x l.anchors) (take (length (used_rows l) + 1) (anchor_starts l)))
     ≡ question5 l
 unfolding question5
-question5-flat l e f g h =
+question5_flat l e f g h =
     let k = total (map layer_count (used_layers l)) in
-    let used : take (length (used_rows l)) l.rows ≡ used_rows l = take-taken k l.rows in
+    let used : take (length (used_rows l)) l.rows ≡ used_rows l = take_taken k l.rows in
     let few : length (used_rows l) ≤ length l.rows = simp length-take (omega arith) in
     sym
     (ap₂ ◌&&◌
-    (ap ordered (layers-z (used_layers l) (rows_of l.rows l.anchors) ∙ map-take layer_z l.depth l.layers))
-    (layers-ordered (used_layers l) l.rows l.anchors
+    (ap ordered (layers_z (used_layers l) (rows_of l.rows l.anchors) ∙ map_take layer_z l.depth l.layers))
+    (layers_ordered_lem (used_layers l) l.rows l.anchors
     ∙ ap₂ ◌&&◌
-    (parts-flat layer_count l.depth l.layers (map row_y l.rows) (omega arith) (rw (length-map l.rows row_y) (omega arith)))
+    (parts_flat layer_count l.depth l.layers (map row_y l.rows) (omega arith) (rw (length-map l.rows row_y) (omega arith)))
     (ap (λ (r : List Row). all_of ordered (chunks (map row_count r) (map anchor_x l.anchors))) (sym used)
-    ∙ parts-flat row_count (length (used_rows l)) l.rows (map anchor_x l.anchors) few (rw (length-map l.anchors anchor_x) (omega arith))))
+    ∙ parts_flat row_count (length (used_rows l)) l.rows (map anchor_x l.anchors) few (rw (length-map l.anchors anchor_x) (omega arith))))
     ∙ sym (and_assoc (ordered (take l.depth (map layer_z l.layers))) _ _))

@@ -14,12 +14,12 @@ pub record Sized (l : Layout) : Type 0 where
   pub rows : length l.rows ≡ 24
   pub anchors : length l.anchors ≡ 24
 
-taken-fit : {A : Type 0} (n : ℕ) (l : List A) → length l ≡ 24 → length (take n l) ≤ 24
-taken-fit n l h = rw length-take (omega arith)
+taken_fit : {A : Type 0} (n : ℕ) (l : List A) → length l ≡ 24 → length (take n l) ≤ 24
+taken_fit n l h = rw length-take (omega arith)
 
 module _ (l : Layout) (s : Sized l) where
   pub rows_fit : length (used_rows l) ≤ 24
-  rows_fit = taken-fit (total (map layer_count (used_layers l))) l.rows s.rows
+  rows_fit = taken_fit (total (map layer_count (used_layers l))) l.rows s.rows
 
-  pub anchors-fit : length (used_anchors l) ≤ 24
-  anchors-fit = taken-fit (total (map row_count (used_rows l))) l.anchors s.anchors
+  pub anchors_fit : length (used_anchors l) ≤ 24
+  anchors_fit = taken_fit (total (map row_count (used_rows l))) l.anchors s.anchors

@@ -9,7 +9,7 @@ use lib.Ieee.{binary64, fits}
 use lib.ListN.{length, take, drop}
 use mir.Facts.{and_yes, yes_and}
 use Rattle.lists.specs.Lists.{all_of}
-use Rattle.lists.proofs.Takes.{map-take}
+use Rattle.lists.proofs.Takes.{map_take}
 use Rattle.layout.specs.declared.Anchor.{Anchor}
 use Rattle.layout.specs.declared.Row.{Row}
 use Rattle.layout.specs.declared.Layer.{Layer}
@@ -19,9 +19,9 @@ use Rattle.layout.specs.Questions.{ordered, ordered_layer, topology_y, topology_
 use Rattle.layout.specs.Steps.Accepted.{Accepted}
 use Rattle.layout.specs.Room.{Room, room_of, active_in, rows_in, anchors_in}
 use Rattle.layout.proofs.Sizes.{Sized}
-use Rattle.layout.proofs.Coordinates.{all-taken, all-dropped, all_map, all-unmap}
-use Rattle.layout.proofs.TopologyStarts.{rows-length}
-use Rattle.layout.proofs.RoomLists.{rows_are, anchors-are, used-is, depth_is}
+use Rattle.layout.proofs.Coordinates.{all_taken, all_dropped, all_map, all_unmap}
+use Rattle.layout.proofs.TopologyStarts.{rows_length}
+use Rattle.layout.proofs.RoomLists.{rows_are, anchors_are, used_is, depth_is}
 
 -- ---- coordinates that are doubles
 abbrev pub fits_anchor : Anchor → Bool
@@ -49,17 +49,17 @@ pub record SoundRoom (r : Room) : Type 0 where
   pub doubles : T (all_of fits_layer r.layers)
 
 -- ---- the coordinates of one list
-pub xs-fit : (w : TopologyRow) → T (fits_row w) → T (all_of (fits binary64) (map anchor_x w.anchors))
-xs-fit w h = all_map fits_anchor (fits binary64) anchor_x (λ a q. q) w.anchors (and_yes (fits binary64 w.y) (all_of fits_anchor w.anchors) h).1
+pub xs_fit : (w : TopologyRow) → T (fits_row w) → T (all_of (fits binary64) (map anchor_x w.anchors))
+xs_fit w h = all_map fits_anchor (fits binary64) anchor_x (λ a q. q) w.anchors (and_yes (fits binary64 w.y) (all_of fits_anchor w.anchors) h).1
 
-pub ys-fit : (ws : List TopologyRow) → T (all_of fits_row ws) → T (all_of (fits binary64) (map topology_y ws))
-ys-fit = all_map fits_row (fits binary64) topology_y (λ w h. (and_yes (fits binary64 w.y) (all_of fits_anchor w.anchors) h).0)
+pub ys_fit : (ws : List TopologyRow) → T (all_of fits_row ws) → T (all_of (fits binary64) (map topology_y ws))
+ys_fit = all_map fits_row (fits binary64) topology_y (λ w h. (and_yes (fits binary64 w.y) (all_of fits_anchor w.anchors) h).0)
 
-pub zs-fit : (ys : List TopologyLayer) → T (all_of fits_layer ys) → T (all_of (fits binary64) (map topology_z ys))
-zs-fit = all_map fits_layer (fits binary64) topology_z (λ y h. (and_yes (fits binary64 y.z) (all_of fits_row y.rows) h).0)
+pub zs_fit : (ys : List TopologyLayer) → T (all_of fits_layer ys) → T (all_of (fits binary64) (map topology_z ys))
+zs_fit = all_map fits_layer (fits binary64) topology_z (λ y h. (and_yes (fits binary64 y.z) (all_of fits_row y.rows) h).0)
 
-pub rows-of : (y : TopologyLayer) → T (fits_layer y) → T (all_of fits_row y.rows)
-rows-of y h = (and_yes (fits binary64 y.z) (all_of fits_row y.rows) h).1
+pub rows_of_lem : (y : TopologyLayer) → T (fits_layer y) → T (all_of fits_row y.rows)
+rows_of_lem y h = (and_yes (fits binary64 y.z) (all_of fits_row y.rows) h).1
 
 -- ---- flat lists whose coordinates are doubles, cut by counts
 rows_fit : (rs : List Row) (xs : List Anchor) → T (all_of (fits binary64) (map row_y rs)) → T (all_of fits_anchor xs) → T (all_of fits_row (rows_of rs xs))
@@ -67,24 +67,24 @@ rows_fit [] xs h k = tt
 rows_fit (r ∷ rs) xs h k =
     let p = and_yes (fits binary64 r.y) (all_of (fits binary64) (map row_y rs)) h in
     yes_and (fits binary64 r.y && all_of fits_anchor (take r.count xs)) (all_of fits_row (rows_of rs (drop r.count xs)))
-    (yes_and (fits binary64 r.y) (all_of fits_anchor (take r.count xs)) p.0 (all-taken fits_anchor r.count xs k))
-    (rows_fit rs (drop r.count xs) p.1 (all-dropped fits_anchor r.count xs k))
+    (yes_and (fits binary64 r.y) (all_of fits_anchor (take r.count xs)) p.0 (all_taken fits_anchor r.count xs k))
+    (rows_fit rs (drop r.count xs) p.1 (all_dropped fits_anchor r.count xs k))
 
-layers-fit : (ls : List Layer) (ts : List TopologyRow) → T (all_of (fits binary64) (map layer_z ls)) → T (all_of fits_row ts) → T (all_of fits_layer (layers_of ls ts))
-layers-fit [] ts h k = tt
-layers-fit (l ∷ ls) ts h k =
+layers_fit : (ls : List Layer) (ts : List TopologyRow) → T (all_of (fits binary64) (map layer_z ls)) → T (all_of fits_row ts) → T (all_of fits_layer (layers_of ls ts))
+layers_fit [] ts h k = tt
+layers_fit (l ∷ ls) ts h k =
     let p = and_yes (fits binary64 l.z) (all_of (fits binary64) (map layer_z ls)) h in
     yes_and (fits binary64 l.z && all_of fits_row (take l.count ts)) (all_of fits_layer (layers_of ls (drop l.count ts)))
-    (yes_and (fits binary64 l.z) (all_of fits_row (take l.count ts)) p.0 (all-taken fits_row l.count ts k))
-    (layers-fit ls (drop l.count ts) p.1 (all-dropped fits_row l.count ts k))
+    (yes_and (fits binary64 l.z) (all_of fits_row (take l.count ts)) p.0 (all_taken fits_row l.count ts k))
+    (layers_fit ls (drop l.count ts) p.1 (all_dropped fits_row l.count ts k))
 
 -- ---- the law
-pub sound-room : (l : Layout) → Sized l → Accepted l → T (all_of (fits binary64) (map layer_z l.layers)) → T (all_of (fits binary64) (map row_y l.rows)) → T (all_of (fits binary64) (map anchor_x l.anchors)) → SoundRoom (room_of l)
-sound-room l s a zs ys xs =
-    let rows : length (rows_in (room_of l)) ≡ length (used_rows l) = ap length (rows_are l) ∙ rows-length (used_rows l) l.anchors in
-    let anchors = ap length (anchors-are l) in
+pub sound_room : (l : Layout) → Sized l → Accepted l → T (all_of (fits binary64) (map layer_z l.layers)) → T (all_of (fits binary64) (map row_y l.rows)) → T (all_of (fits binary64) (map anchor_x l.anchors)) → SoundRoom (room_of l)
+sound_room l s a zs ys xs =
+    let rows : length (rows_in (room_of l)) ≡ length (used_rows l) = ap length (rows_are l) ∙ rows_length (used_rows l) l.anchors in
+    let anchors = ap length (anchors_are l) in
     record {
-      few_channels = omega (arith, used-is l s a, a.few_channels);
+      few_channels = omega (arith, used_is l s a, a.few_channels);
       some_active = a.some_active;
       few_active = a.few_active;
       few_layers = omega (arith, depth_is l s a, a.few_layers);
@@ -92,5 +92,5 @@ sound-room l s a zs ys xs =
       few_anchors = omega (arith, a.most_anchors);
       z_ordered = a.z_ordered;
       layers_ordered = a.layers_ordered;
-      doubles = layers-fit (used_layers l) _ (rw (map-take layer_z l.depth l.layers) (all-taken (fits binary64) l.depth (map layer_z l.layers) zs)) (rows_fit l.rows l.anchors ys (all-unmap (fits binary64) anchor_x l.anchors xs));
+      doubles = layers_fit (used_layers l) _ (rw (map_take layer_z l.depth l.layers) (all_taken (fits binary64) l.depth (map layer_z l.layers) zs)) (rows_fit l.rows l.anchors ys (all_unmap (fits binary64) anchor_x l.anchors xs));
     }

@@ -7,40 +7,40 @@ use native.Mathlib.Numerals.{add-one}
 use native.Mathlib.Omega.{arith}
 use lib.ListN.{length, get_or, take, set, length-map, length-take}
 use Rattle.lists.specs.Lists.{total}
-use Rattle.lists.proofs.Takes.{take_min, map-take}
+use Rattle.lists.proofs.Takes.{take_min, map_take}
 use Rattle.lists.proofs.Fill.{Filled, fill_none, fill_more}
 use Rattle.layout.specs.Steps.Starts.{starts_from}
 
-pub starts-length : (s : ℕ) (cs : List ℕ) → length (starts_from s cs) ≡ suc (length cs)
-starts-length s [] = refl
-starts-length s (c ∷ cs) = ap suc (starts-length (min (s + c) 24) cs)
+pub starts_length : (s : ℕ) (cs : List ℕ) → length (starts_from s cs) ≡ suc (length cs)
+starts_length s [] = refl
+starts_length s (c ∷ cs) = ap suc (starts_length (min (s + c) 24) cs)
 
 pub starts_first : (s : ℕ) (cs : List ℕ) → get_or (starts_from s cs) 0 0 ≡ s
 starts_first s [] = refl
 starts_first s (c ∷ cs) = refl
 
 -- a count further
-pub starts-next : (s : ℕ) (cs : List ℕ) (i : ℕ) → i < length cs → get_or (starts_from s cs) (suc i) 0 ≡ min (get_or (starts_from s cs) i 0 + get_or cs i 0) 24
-starts-next s [] i h = absurd (omega arith)
-starts-next s (c ∷ cs) zero h = starts_first (min (s + c) 24) cs
-starts-next s (c ∷ cs) (suc i) h = starts-next (min (s + c) 24) cs i (omega arith)
+pub starts_next : (s : ℕ) (cs : List ℕ) (i : ℕ) → i < length cs → get_or (starts_from s cs) (suc i) 0 ≡ min (get_or (starts_from s cs) i 0 + get_or cs i 0) 24
+starts_next s [] i h = absurd (omega arith)
+starts_next s (c ∷ cs) zero h = starts_first (min (s + c) 24) cs
+starts_next s (c ∷ cs) (suc i) h = starts_next (min (s + c) 24) cs i (omega arith)
 
 -- k counts further
-pub starts-total : (s : ℕ) (cs : List ℕ) (k : ℕ) → s ≤ 24 → k ≤ length cs → get_or (starts_from s cs) k 0 ≡ min (s + total (take k cs)) 24
-starts-total s [] zero h k≤ = omega arith
-starts-total s [] (suc k) h k≤ = absurd (omega arith)
-starts-total s (c ∷ cs) zero h k≤ = omega arith
-starts-total s (c ∷ cs) (suc k) h k≤ = starts-total (min (s + c) 24) cs k (omega arith) (omega arith) ∙ omega arith
+pub starts_total : (s : ℕ) (cs : List ℕ) (k : ℕ) → s ≤ 24 → k ≤ length cs → get_or (starts_from s cs) k 0 ≡ min (s + total (take k cs)) 24
+starts_total s [] zero h k≤ = omega arith
+starts_total s [] (suc k) h k≤ = absurd (omega arith)
+starts_total s (c ∷ cs) zero h k≤ = omega arith
+starts_total s (c ∷ cs) (suc k) h k≤ = starts_total (min (s + c) 24) cs k (omega arith) (omega arith) ∙ omega arith
 
-pub starts-most : (cs : List ℕ) (k : ℕ) → k ≤ length cs → get_or (starts_from 0 cs) k 0 ≤ 24
-starts-most cs k h = omega (arith, starts-total 0 cs k (omega arith) h)
+pub starts_most : (cs : List ℕ) (k : ℕ) → k ≤ length cs → get_or (starts_from 0 cs) k 0 ≤ 24
+starts_most cs k h = omega (arith, starts_total 0 cs k (omega arith) h)
 
 -- the start behind the first k parts of n is how many entries these parts have, of 24 that there are
-pub starts-used : {A B : Type 0} (f : A → ℕ) (n k : ℕ) (xs : List A) (ys : List B) → length xs ≡ n → length ys ≡ 24 → get_or (starts_from 0 (map f xs)) (min k n) 0 ≡ length (take (total (map f (take k xs))) ys)
-starts-used f n k xs ys p q =
+pub starts_used : {A B : Type 0} (f : A → ℕ) (n k : ℕ) (xs : List A) (ys : List B) → length xs ≡ n → length ys ≡ 24 → get_or (starts_from 0 (map f xs)) (min k n) 0 ≡ length (take (total (map f (take k xs))) ys)
+starts_used f n k xs ys p q =
     let l : length (map f xs) ≡ n = length-map xs f ∙ p in
-    let t = starts-total 0 (map f xs) (min k n) (omega arith) (omega arith) in
-    rw (take_min k n (map f xs) (omega arith), ← map-take f k xs, zero-add) at t ∙ rw (← q) (sym (length-take _ ys))
+    let t = starts_total 0 (map f xs) (min k n) (omega arith) (omega arith) in
+    rw (take_min k n (map f xs) (omega arith), ← map_take f k xs, zero-add) at t ∙ rw (← q) (sym (length-take _ ys))
 
 -- ---- the loop that writes the starts of n parts: the first i + 1 are written, and s is the last of them
 pub record Started (n : ℕ) (cs out : List ℕ) (s i : ℕ) : Type 0 where
@@ -52,7 +52,7 @@ pub record Started (n : ℕ) (cs out : List ℕ) (s i : ℕ) : Type 0 where
 module _ (n : ℕ) (cs out : List ℕ) where
   pub start_none : length cs ≡ n → length out ≡ suc n → Started n cs (set out 0 0) 0 0
   start_none p q =
-      let e = starts-length 0 cs in
+      let e = starts_length 0 cs in
       record {
         counts = p;
         small = omega arith;
@@ -60,7 +60,7 @@ module _ (n : ℕ) (cs out : List ℕ) where
         written = fill_more (suc n) (starts_from 0 cs) out 0 0 0 (fill_none (suc n) (starts_from 0 cs) out (omega arith) q) (omega arith) (sym (starts_first 0 cs));
       }
 
-  pub start-more : (s i c t : ℕ) → Started n cs out s i → i < n → c ≡ get_or cs i 0 → t ≡ min (s + c) 24 → Started n cs (set out (i + 1) t) t (i + 1)
-  start-more s i c t w h p q =
-      let next : t ≡ get_or (starts_from 0 cs) (i + 1) 0 = rw (q, w.last, p, add-one) (sym (starts-next 0 cs i (omega arith))) in
+  pub start_more : (s i c t : ℕ) → Started n cs out s i → i < n → c ≡ get_or cs i 0 → t ≡ min (s + c) 24 → Started n cs (set out (i + 1) t) t (i + 1)
+  start_more s i c t w h p q =
+      let next : t ≡ get_or (starts_from 0 cs) (i + 1) 0 = rw (q, w.last, p, add-one) (sym (starts_next 0 cs i (omega arith))) in
       record { counts = w.counts; small = omega arith; last = next; written = fill_more (suc n) (starts_from 0 cs) out (i + 1) 0 t w.written (omega arith) next }

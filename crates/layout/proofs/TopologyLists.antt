@@ -8,35 +8,35 @@ use native.Mathlib.Omega.{arith}
 use lib.ListN.{length, get_or, take, drop}
 use lib.Seq.{drop-nil, take-add}
 use Rattle.lists.specs.Lists.{all_of, total, chunks, flatten}
-use Rattle.lists.proofs.Takes.{map-take}
+use Rattle.lists.proofs.Takes.{map_take}
 
 module _ {A : Type 0} where
   -- a list of at most k is passed by k
-  pub drop-cap : (n k : ℕ) (xs : List A) → length xs ≤ k → drop n xs ≡ drop (min n k) xs
-  drop-cap zero k xs h = rw zero-min refl
-  drop-cap (suc n) k [] h = sym (drop-nil (min (suc n) k))
-  drop-cap (suc n) zero (x ∷ xs) h = let z : ⊥ = omega arith in absurd z
-  drop-cap (suc n) (suc k) (x ∷ xs) h = rw suc-min-suc (drop-cap n k xs (omega arith))
+  pub drop_cap : (n k : ℕ) (xs : List A) → length xs ≤ k → drop n xs ≡ drop (min n k) xs
+  drop_cap zero k xs h = rw zero-min refl
+  drop_cap (suc n) k [] h = sym (drop-nil (min (suc n) k))
+  drop_cap (suc n) zero (x ∷ xs) h = let z : ⊥ = omega arith in absurd z
+  drop_cap (suc n) (suc k) (x ∷ xs) h = rw suc-min-suc (drop_cap n k xs (omega arith))
 
   -- as many as were taken
-  pub take-taken : (n : ℕ) (xs : List A) → take (length (take n xs)) xs ≡ take n xs
-  take-taken zero xs = refl
-  take-taken (suc n) [] = refl
-  take-taken (suc n) (x ∷ xs) = ap (λ (r : List A). x ∷ r) (take-taken n xs)
+  pub take_taken : (n : ℕ) (xs : List A) → take (length (take n xs)) xs ≡ take n xs
+  take_taken zero xs = refl
+  take_taken (suc n) [] = refl
+  take_taken (suc n) (x ∷ xs) = ap (λ (r : List A). x ∷ r) (take_taken n xs)
 
   -- the parts, put one after another
-  pub concat-chunks : (ns : List ℕ) (xs : List A) → flatten (chunks ns xs) ≡ take (total ns) xs
-  concat-chunks [] xs = refl
-  concat-chunks (n ∷ ns) xs = ap (λ (r : List A). take n xs ++ r) (concat-chunks ns (drop n xs)) ∙ sym (take-add n (total ns) xs)
+  pub concat_chunks : (ns : List ℕ) (xs : List A) → flatten (chunks ns xs) ≡ take (total ns) xs
+  concat_chunks [] xs = refl
+  concat_chunks (n ∷ ns) xs = ap (λ (r : List A). take n xs ++ r) (concat_chunks ns (drop n xs)) ∙ sym (take-add n (total ns) xs)
 
   -- ---- tests
   pub all_append : (p : A → Bool) (xs ys : List A) → all_of p (xs ++ ys) ≡ (all_of p xs && all_of p ys)
   all_append p [] ys = refl
   all_append p (x ∷ xs) ys = rw (all_append p xs ys) (sym (and_assoc (p x) (all_of p xs) (all_of p ys)))
 
-  pub all-concat : (p : A → Bool) (xss : List (List A)) → all_of (all_of p) xss ≡ all_of p (flatten xss)
-  all-concat p [] = refl
-  all-concat p (xs ∷ xss) = rw (all_append p xs (flatten xss), all-concat p xss)
+  pub all_concat : (p : A → Bool) (xss : List (List A)) → all_of (all_of p) xss ≡ all_of p (flatten xss)
+  all_concat p [] = refl
+  all_concat p (xs ∷ xss) = rw (all_append p xs (flatten xss), all_concat p xss)
 
   pub all_both : (p q : A → Bool) (xs : List A) → all_of (λ x. p x && q x) xs ≡ (all_of p xs && all_of q xs)
   all_both p q [] = refl
@@ -49,28 +49,28 @@ module _ {A : Type 0} where
       exchange false b c d = refl
 
 module _ {A B : Type 0} (f : A → B) where
-  pub map-drop : (n : ℕ) (xs : List A) → map f (drop n xs) ≡ drop n (map f xs)
-  map-drop zero xs = refl
-  map-drop (suc n) [] = refl
-  map-drop (suc n) (x ∷ xs) = map-drop n xs
+  pub map_drop : (n : ℕ) (xs : List A) → map f (drop n xs) ≡ drop n (map f xs)
+  map_drop zero xs = refl
+  map_drop (suc n) [] = refl
+  map_drop (suc n) (x ∷ xs) = map_drop n xs
 
-  pub map-chunks : (ns : List ℕ) (xs : List A) → map (map f) (chunks ns xs) ≡ chunks ns (map f xs)
-  map-chunks [] xs = refl
-  map-chunks (n ∷ ns) xs =
-      ap₂ (λ (a : List B) (r : List (List B)). a ∷ r) (map-take f n xs) (map-chunks ns (drop n xs) ∙ ap (chunks ns) (map-drop n xs))
+  pub map_chunks : (ns : List ℕ) (xs : List A) → map (map f) (chunks ns xs) ≡ chunks ns (map f xs)
+  map_chunks [] xs = refl
+  map_chunks (n ∷ ns) xs =
+      ap₂ (λ (a : List B) (r : List (List B)). a ∷ r) (map_take f n xs) (map_chunks ns (drop n xs) ∙ ap (chunks ns) (map_drop n xs))
 
   pub all_map : (p : B → Bool) (xs : List A) → all_of (λ x. p (f x)) xs ≡ all_of p (map f xs)
   all_map p [] = refl
   all_map p (x ∷ xs) = ap (λ (b : Bool). p (f x) && b) (all_map p xs)
 
 -- ---- sums of counts
-pub total-within : (i n : ℕ) (cs : List ℕ) → i ≤ n → total (take i cs) ≤ total (take n cs)
-total-within zero n cs h = omega arith
-total-within (suc i) zero cs h = absurd (omega arith)
-total-within (suc i) (suc n) [] h = omega arith
-total-within (suc i) (suc n) (c ∷ cs) h = let r = total-within i n cs (omega arith) in omega arith
+pub total_within : (i n : ℕ) (cs : List ℕ) → i ≤ n → total (take i cs) ≤ total (take n cs)
+total_within zero n cs h = omega arith
+total_within (suc i) zero cs h = absurd (omega arith)
+total_within (suc i) (suc n) [] h = omega arith
+total_within (suc i) (suc n) (c ∷ cs) h = let r = total_within i n cs (omega arith) in omega arith
 
-pub total-next : {A : Type 0} (count : A → ℕ) (i : ℕ) (l : List A) (d : A) → i < length l → total (map count (take (suc i) l)) ≡ total (map count (take i l)) + count (get_or l i d)
-total-next count i [] d h = absurd (omega arith)
-total-next count zero (x ∷ l) d h = omega arith
-total-next count (suc i) (x ∷ l) d h = let r = total-next count i l d (omega arith) in omega arith
+pub total_next : {A : Type 0} (count : A → ℕ) (i : ℕ) (l : List A) (d : A) → i < length l → total (map count (take (suc i) l)) ≡ total (map count (take i l)) + count (get_or l i d)
+total_next count i [] d h = absurd (omega arith)
+total_next count zero (x ∷ l) d h = omega arith
+total_next count (suc i) (x ∷ l) d h = let r = total_next count i l d (omega arith) in omega arith

@@ -7,16 +7,16 @@ use native.Mathlib.Omega.{arith}
 use lib.ListN.{length, get_or, take, drop, length-map}
 use lib.Seq.{slice, drop-drop}
 use Rattle.lists.specs.Lists.{total, chunks}
-use Rattle.lists.proofs.Chunks.{slice-take}
-use Rattle.lists.proofs.Takes.{take_min, map-take}
+use Rattle.lists.proofs.Chunks.{slice_take}
+use Rattle.lists.proofs.Takes.{take_min, map_take}
 use Rattle.layout.specs.declared.Anchor.{Anchor}
 use Rattle.layout.specs.declared.Row.{Row}
 use Rattle.layout.specs.declared.Layer.{Layer}
 use Rattle.layout.specs.Topology.{TopologyRow, TopologyLayer, rows_of, layers_of, row_y, row_count, layer_z, layer_count}
 use Rattle.layout.specs.Steps.Starts.{starts_from, no_row, no_layer}
 use Rattle.layout.specs.Questions.{topology_y, topology_z}
-use Rattle.layout.proofs.TopologyLists.{drop-cap, total-within}
-use Rattle.layout.proofs.StartsFrom.{starts-total}
+use Rattle.layout.proofs.TopologyLists.{drop_cap, total_within}
+use Rattle.layout.proofs.StartsFrom.{starts_total}
 
 abbrev pub topology_anchors : TopologyRow → List Anchor
 topology_anchors r = r.anchors
@@ -26,34 +26,34 @@ topology_rows l = l.rows
 
 -- ---- the topology, cut by counts
 
-pub rows-y : (rs : List Row) (xs : List Anchor) → map topology_y (rows_of rs xs) ≡ map row_y rs
-rows-y [] xs = refl
-rows-y (r ∷ rs) xs = ap {B = List _} (λ t. r.y ∷ t) (rows-y rs (drop r.count xs))
+pub rows_y : (rs : List Row) (xs : List Anchor) → map topology_y (rows_of rs xs) ≡ map row_y rs
+rows_y [] xs = refl
+rows_y (r ∷ rs) xs = ap {B = List _} (λ t. r.y ∷ t) (rows_y rs (drop r.count xs))
 
-pub rows-anchors : (rs : List Row) (xs : List Anchor) → map topology_anchors (rows_of rs xs) ≡ chunks (map row_count rs) xs
-rows-anchors [] xs = refl
-rows-anchors (r ∷ rs) xs = ap {B = List _} (λ t. take r.count xs ∷ t) (rows-anchors rs (drop r.count xs))
+pub rows_anchors : (rs : List Row) (xs : List Anchor) → map topology_anchors (rows_of rs xs) ≡ chunks (map row_count rs) xs
+rows_anchors [] xs = refl
+rows_anchors (r ∷ rs) xs = ap {B = List _} (λ t. take r.count xs ∷ t) (rows_anchors rs (drop r.count xs))
 
 pub rows_take : (k : ℕ) (rs : List Row) (xs : List Anchor) → take k (rows_of rs xs) ≡ rows_of (take k rs) xs
 rows_take zero rs xs = refl
 rows_take (suc k) [] xs = refl
 rows_take (suc k) (r ∷ rs) xs = ap {B = List TopologyRow} (λ t. record { y = r.y; anchors = take r.count xs } ∷ t) (rows_take k rs (drop r.count xs))
 
-pub rows-length : (rs : List Row) (xs : List Anchor) → length (rows_of rs xs) ≡ length rs
-rows-length [] xs = refl
-rows-length (r ∷ rs) xs = ap suc (rows-length rs (drop r.count xs))
+pub rows_length : (rs : List Row) (xs : List Anchor) → length (rows_of rs xs) ≡ length rs
+rows_length [] xs = refl
+rows_length (r ∷ rs) xs = ap suc (rows_length rs (drop r.count xs))
 
-pub layers-z : (ls : List Layer) (rs : List TopologyRow) → map topology_z (layers_of ls rs) ≡ map layer_z ls
-layers-z [] rs = refl
-layers-z (l ∷ ls) rs = ap {B = List _} (λ t. l.z ∷ t) (layers-z ls (drop l.count rs))
+pub layers_z : (ls : List Layer) (rs : List TopologyRow) → map topology_z (layers_of ls rs) ≡ map layer_z ls
+layers_z [] rs = refl
+layers_z (l ∷ ls) rs = ap {B = List _} (λ t. l.z ∷ t) (layers_z ls (drop l.count rs))
 
-pub layers-rows : (ls : List Layer) (rs : List TopologyRow) → map topology_rows (layers_of ls rs) ≡ chunks (map layer_count ls) rs
-layers-rows [] rs = refl
-layers-rows (l ∷ ls) rs = ap {B = List _} (λ t. take l.count rs ∷ t) (layers-rows ls (drop l.count rs))
+pub layers_rows : (ls : List Layer) (rs : List TopologyRow) → map topology_rows (layers_of ls rs) ≡ chunks (map layer_count ls) rs
+layers_rows [] rs = refl
+layers_rows (l ∷ ls) rs = ap {B = List _} (λ t. take l.count rs ∷ t) (layers_rows ls (drop l.count rs))
 
-pub layers-length : (ls : List Layer) (rs : List TopologyRow) → length (layers_of ls rs) ≡ length ls
-layers-length [] rs = refl
-layers-length (l ∷ ls) rs = ap suc (layers-length ls (drop l.count rs))
+pub layers_length : (ls : List Layer) (rs : List TopologyRow) → length (layers_of ls rs) ≡ length ls
+layers_length [] rs = refl
+layers_length (l ∷ ls) rs = ap suc (layers_length ls (drop l.count rs))
 
 -- ---- the starts
 
@@ -62,18 +62,18 @@ starts_first [] s = refl
 starts_first (c ∷ cs) s = refl
 
 -- where the sum of n counts is at most 24, a start up to n is the sum of the counts before it
-pub start-sum : {A : Type 0} (count : A → ℕ) (l : List A) (i n : ℕ) → i ≤ n → i ≤ length l → total (map count (take n l)) ≤ 24 → get_or (starts_from 0 (map count l)) i 0 ≡ total (map count (take i l))
-start-sum count l i n h k m =
-    let w = total-within i n (map count l) h in
-    let m' : total (take n (map count l)) ≤ 24 = rw (← map-take count n l) m in
-    starts-total 0 (map count l) i (omega arith) (rw (length-map l count) k) ∙ rw (map-take count i l) (omega arith)
+pub start_sum : {A : Type 0} (count : A → ℕ) (l : List A) (i n : ℕ) → i ≤ n → i ≤ length l → total (map count (take n l)) ≤ 24 → get_or (starts_from 0 (map count l)) i 0 ≡ total (map count (take i l))
+start_sum count l i n h k m =
+    let w = total_within i n (map count l) h in
+    let m' : total (take n (map count l)) ≤ 24 = rw (← map_take count n l) m in
+    starts_total 0 (map count l) i (omega arith) (rw (length-map l count) k) ∙ rw (map_take count i l) (omega arith)
 
 -- the starts of the first n parts
-pub starts-take : (n : ℕ) (cs : List ℕ) (s : ℕ) → n ≤ length cs → starts_from s (take n cs) ≡ take (suc n) (starts_from s cs)
-starts-take zero [] s h = refl
-starts-take zero (c ∷ cs) s h = refl
-starts-take (suc n) [] s h = let z : ⊥ = omega arith in absurd z
-starts-take (suc n) (c ∷ cs) s h = ap {B = List ℕ} (λ t. s ∷ t) (starts-take n cs (min (s + c) 24) (omega arith))
+pub starts_take : (n : ℕ) (cs : List ℕ) (s : ℕ) → n ≤ length cs → starts_from s (take n cs) ≡ take (suc n) (starts_from s cs)
+starts_take zero [] s h = refl
+starts_take zero (c ∷ cs) s h = refl
+starts_take (suc n) [] s h = let z : ⊥ = omega arith in absurd z
+starts_take (suc n) (c ∷ cs) s h = ap {B = List ℕ} (λ t. s ∷ t) (starts_take n cs (min (s + c) 24) (omega arith))
 
 -- ---- the parts of a list between starts
 module _ {A : Type 0} where
@@ -83,19 +83,19 @@ module _ {A : Type 0} where
   parts (a ∷ b ∷ starts) xs = slice a b xs ∷ parts (b ∷ starts) xs
 
   -- one part, and what follows it
-  pub part-here : (s c : ℕ) (xs : List A) → length xs ≤ 24 → take c (drop s xs) ≡ slice s (min (s + c) 24) xs
-  part-here s c xs h = sym (slice-take s c xs) ∙ ap (drop s) (sym (take_min (s + c) 24 xs h))
+  pub part_here : (s c : ℕ) (xs : List A) → length xs ≤ 24 → take c (drop s xs) ≡ slice s (min (s + c) 24) xs
+  part_here s c xs h = sym (slice_take s c xs) ∙ ap (drop s) (sym (take_min (s + c) 24 xs h))
 
-  pub part-rest : (s c : ℕ) (xs : List A) → length xs ≤ 24 → drop c (drop s xs) ≡ drop (min (s + c) 24) xs
-  part-rest s c xs h = drop-drop c s xs ∙ drop-cap (s + c) 24 xs h
+  pub part_rest : (s c : ℕ) (xs : List A) → length xs ≤ 24 → drop c (drop s xs) ≡ drop (min (s + c) 24) xs
+  part_rest s c xs h = drop-drop c s xs ∙ drop_cap (s + c) 24 xs h
 
   -- a list cut by counts is cut at their starts
-  pub starts-parts : (cs : List ℕ) (s : ℕ) (xs : List A) → length xs ≤ 24 → chunks cs (drop s xs) ≡ parts (starts_from s cs) xs
-  starts-parts [] s xs h = refl
-  starts-parts (c ∷ []) s xs h = ap (λ (p : List A). p ∷ []) (part-here s c xs h)
-  starts-parts (c ∷ d ∷ ds) s xs h =
-      ap₂ (λ (p : List A) (r : List (List A)). p ∷ r) (part-here s c xs h)
-      (ap (chunks (d ∷ ds)) (part-rest s c xs h) ∙ starts-parts (d ∷ ds) (min (s + c) 24) xs h)
+  pub starts_parts : (cs : List ℕ) (s : ℕ) (xs : List A) → length xs ≤ 24 → chunks cs (drop s xs) ≡ parts (starts_from s cs) xs
+  starts_parts [] s xs h = refl
+  starts_parts (c ∷ []) s xs h = ap (λ (p : List A). p ∷ []) (part_here s c xs h)
+  starts_parts (c ∷ d ∷ ds) s xs h =
+      ap₂ (λ (p : List A) (r : List (List A)). p ∷ r) (part_here s c xs h)
+      (ap (chunks (d ∷ ds)) (part_rest s c xs h) ∙ starts_parts (d ∷ ds) (min (s + c) 24) xs h)
 
 -- ---- row i and layer i of the topology
 
@@ -105,16 +105,16 @@ pub rows_at : (rs : List Row) (xs : List Anchor) (s i : ℕ) (d : TopologyRow) �
 rows_at [] xs s i d h k = let z : ⊥ = omega arith in absurd z
 rows_at (r ∷ rs) xs s zero d h k =
     ap {B = TopologyRow} (λ t. record { y = r.y; anchors = t })
-    (part-here s r.count xs h ∙ ap (λ (e : ℕ). slice s e xs) (sym (starts_first (map row_count rs) (min (s + r.count) 24))))
+    (part_here s r.count xs h ∙ ap (λ (e : ℕ). slice s e xs) (sym (starts_first (map row_count rs) (min (s + r.count) 24))))
 rows_at (r ∷ rs) xs s (suc i) d h k =
-    ap (λ (t : List Anchor). get_or (rows_of rs t) i d) (part-rest s r.count xs h) ∙ rows_at rs xs (min (s + r.count) 24) i d h (omega arith)
+    ap (λ (t : List Anchor). get_or (rows_of rs t) i d) (part_rest s r.count xs h) ∙ rows_at rs xs (min (s + r.count) 24) i d h (omega arith)
 
-pub layers-at : (ls : List Layer) (rs : List TopologyRow) (s i : ℕ) (d : TopologyLayer) → length rs ≤ 24 → i < length ls →
+pub layers_at : (ls : List Layer) (rs : List TopologyRow) (s i : ℕ) (d : TopologyLayer) → length rs ≤ 24 → i < length ls →
     let starts = starts_from s (map layer_count ls) in
     get_or (layers_of ls (drop s rs)) i d ≡ record { z = (get_or ls i no_layer).z; rows = slice (get_or starts i 0) (get_or starts (suc i) 0) rs }
-layers-at [] rs s i d h k = let z : ⊥ = omega arith in absurd z
-layers-at (l ∷ ls) rs s zero d h k =
+layers_at [] rs s i d h k = let z : ⊥ = omega arith in absurd z
+layers_at (l ∷ ls) rs s zero d h k =
     ap {B = TopologyLayer} (λ t. record { z = l.z; rows = t })
-    (part-here s l.count rs h ∙ ap (λ (e : ℕ). slice s e rs) (sym (starts_first (map layer_count ls) (min (s + l.count) 24))))
-layers-at (l ∷ ls) rs s (suc i) d h k =
-    ap (λ (t : List TopologyRow). get_or (layers_of ls t) i d) (part-rest s l.count rs h) ∙ layers-at ls rs (min (s + l.count) 24) i d h (omega arith)
+    (part_here s l.count rs h ∙ ap (λ (e : ℕ). slice s e rs) (sym (starts_first (map layer_count ls) (min (s + l.count) 24))))
+layers_at (l ∷ ls) rs s (suc i) d h k =
+    ap (λ (t : List TopologyRow). get_or (layers_of ls t) i d) (part_rest s l.count rs h) ∙ layers_at ls rs (min (s + l.count) 24) i d h (omega arith)

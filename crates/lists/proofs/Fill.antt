@@ -35,5 +35,5 @@ module _ {A : Type 0} (n : ℕ) (l out : List A) where
   fill_done i w h = sym (take_all i out (omega arith)) ∙ w.same ∙ take_all i l (omega arith)
 
 -- one more, where a function makes l from a list that the loop reads
-pub fill-map : {A B : Type 0} (f : A → B) (n : ℕ) (xs : List A) (out : List B) (i : ℕ) (d : A) → Filled n (map f xs) out i → i < n → Filled n (map f xs) (set out i (f (get_or xs i d))) (i + 1)
-fill-map f n xs out i d w h = fill_more n (map f xs) out i (f d) (f (get_or xs i d)) w h (sym (get_or-map f xs i d))
+pub fill_map : {A B : Type 0} (f : A → B) (n : ℕ) (xs : List A) (out : List B) (i : ℕ) (d : A) → Filled n (map f xs) out i → i < n → Filled n (map f xs) (set out i (f (get_or xs i d))) (i + 1)
+fill_map f n xs out i d w h = fill_more n (map f xs) out i (f d) (f (get_or xs i d)) w h (sym (get_or-map f xs i d))

@@ -14,7 +14,7 @@ take_min (suc n) m [] h = take-nil (min (suc n) m)
 take_min (suc n) zero (x ∷ xs) h = absurd (omega arith)
 take_min {A} (suc n) (suc m) (x ∷ xs) h = simp unary_clauses (ap (λ (l : List A). x ∷ l) (take_min n m xs (omega arith)))
 
-pub map-take : {A B : Type 0} (f : A → B) (n : ℕ) (l : List A) → map f (take n l) ≡ take n (map f l)
-map-take f zero l = refl
-map-take f (suc n) [] = refl
-map-take {B = B} f (suc n) (x ∷ xs) = ap (λ (l : List B). f x ∷ l) (map-take f n xs)
+pub map_take : {A B : Type 0} (f : A → B) (n : ℕ) (l : List A) → map f (take n l) ≡ take n (map f l)
+map_take f zero l = refl
+map_take f (suc n) [] = refl
+map_take {B = B} f (suc n) (x ∷ xs) = ap (λ (l : List B). f x ∷ l) (map_take f n xs)

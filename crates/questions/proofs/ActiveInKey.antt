@@ -20,27 +20,27 @@ abbrev named : List Channel → List ℕ
 named cs = map channel_name (filtered active cs)
 
 -- the name of an active channel is one of them
-active-named : (cs : List Channel) (i : ℕ) → i < length cs → active (get_or cs i no_channel) ≡ true → elem (channel_name (get_or cs i no_channel)) (named cs) ≡ true
-active-named [] i h e = absurd (omega arith)
-active-named (c ∷ cs) zero h e = rw (e, eq-eqb (channel_name c) (channel_name c) refl)
-active-named (c ∷ cs) (suc i) h e = go (active c) (active-named cs i (omega arith) e)
+active_named : (cs : List Channel) (i : ℕ) → i < length cs → active (get_or cs i no_channel) ≡ true → elem (channel_name (get_or cs i no_channel)) (named cs) ≡ true
+active_named [] i h e = absurd (omega arith)
+active_named (c ∷ cs) zero h e = rw (e, eq-eqb (channel_name c) (channel_name c) refl)
+active_named (c ∷ cs) (suc i) h e = go (active c) (active_named cs i (omega arith) e)
   where
     go : (b : Bool) → elem (channel_name (get_or cs i no_channel)) (named cs) ≡ true → elem (channel_name (get_or cs i no_channel)) (map channel_name (cond b (c ∷ filtered active cs) (filtered active cs))) ≡ true
     go true f = rw (f, or-true)
     go false f = f
 
 -- by whether the first channel is active
-named-first : (x : ℕ) (c : Channel) (cs : List Channel) → elem x (named (c ∷ cs)) ≡ cond (active c) (eqb (channel_name c) x || elem x (named cs)) (elem x (named cs))
-named-first x c cs = go (active c)
+named_first : (x : ℕ) (c : Channel) (cs : List Channel) → elem x (named (c ∷ cs)) ≡ cond (active c) (eqb (channel_name c) x || elem x (named cs)) (elem x (named cs))
+named_first x c cs = go (active c)
   where
     go : (b : Bool) → elem x (map channel_name (cond b (c ∷ filtered active cs) (filtered active cs))) ≡ cond b (eqb (channel_name c) x || elem x (named cs)) (elem x (named cs))
     go true = refl
     go false = refl
 
 -- and one of all names
-named-among : (x : ℕ) (cs : List Channel) → elem x (named cs) ≡ true → elem x (map channel_name cs) ≡ true
-named-among x [] e = e
-named-among x (c ∷ cs) e = go (active c) (eqb (channel_name c) x) (elem x (map channel_name cs)) (elem x (named cs)) (sym (named-first x c cs) ∙ e) (named-among x cs)
+named_among : (x : ℕ) (cs : List Channel) → elem x (named cs) ≡ true → elem x (map channel_name cs) ≡ true
+named_among x [] e = e
+named_among x (c ∷ cs) e = go (active c) (eqb (channel_name c) x) (elem x (map channel_name cs)) (elem x (named cs)) (sym (named_first x c cs) ∙ e) (named_among x cs)
   where
     go : (b d f g : Bool) → cond b (d || g) g ≡ true → (g ≡ true → f ≡ true) → (d || f) ≡ true
     go b true f g q h = refl
@@ -48,17 +48,17 @@ named-among x (c ∷ cs) e = go (active c) (eqb (channel_name c) x) (elem x (map
     go false false f g q h = h q
 
 -- where all names are different, the channel at a name's place is the active one that has it
-named-place : (x : ℕ) (cs : List Channel) → all_distinct (map channel_name cs) ≡ true → elem x (named cs) ≡ true →
+named_place : (x : ℕ) (cs : List Channel) → all_distinct (map channel_name cs) ≡ true → elem x (named cs) ≡ true →
     let p = index_of x (map channel_name cs) in
     (p < length cs) × (active (get_or cs p no_channel) ≡ true)
-named-place x [] d e = absurd (false≢true e)
-named-place x (c ∷ cs) d e =
+named_place x [] d e = absurd (false≢true e)
+named_place x (c ∷ cs) d e =
     let b = both (not (elem (channel_name c) (map channel_name cs))) (all_distinct (map channel_name cs)) d in
-    go (eqb (channel_name c) x) refl (not-true _ b.0) (sym (named-first x c cs) ∙ e) (named-place x cs b.1)
+    go (eqb (channel_name c) x) refl (not-true _ b.0) (sym (named_first x c cs) ∙ e) (named_place x cs b.1)
   where
     here : (b : Bool) → active c ≡ b → channel_name c ≡ x → elem (channel_name c) (map channel_name cs) ≡ false → cond b true (elem x (named cs)) ≡ true → active c ≡ true
     here true a q n f = a
-    here false a q n f = absurd (false≢true (sym n ∙ ap (λ (y : ℕ). elem y (map channel_name cs)) q ∙ named-among x cs f))
+    here false a q n f = absurd (false≢true (sym n ∙ ap (λ (y : ℕ). elem y (map channel_name cs)) q ∙ named_among x cs f))
 
     rest : (b g : Bool) → cond b g g ≡ true → g ≡ true
     rest true g f = f
@@ -71,26 +71,26 @@ named-place x (c ∷ cs) d e =
     go false q n f ih = let r = ih (rest (active c) (elem x (named cs)) f) in rw one-add (omega (arith, r.0), r.1)
 
 module _ (cs : List Channel) (key : List ℕ) (n : ℕ) (k : length cs ≡ n) (names : take n key ≡ map channel_name cs) (flag_at : (i : ℕ) → i < n → eqb (get_or key (24 + i) 0) 1 ≡ active (get_or cs i no_channel)) where
-  active-by-key : (w : ℕ) → is_active_name key n w ≡ true → elem w (named cs) ≡ true
-  active-by-key w e =
+  active_by_key : (w : ℕ) → is_active_name key n w ≡ true → elem w (named cs) ≡ true
+  active_by_key w e =
       let p = index_in key n w in
       let b = both (ltb p n) (eqb (get_or key (24 + p) 0) 1) e in
       let h : p < n = ltb-true p n b.0 in
       let long : length (take n key) ≡ n = ap length names ∙ length-map cs channel_name ∙ k in
       let name : channel_name (get_or cs p no_channel) ≡ w =
       sym (get_or-map channel_name cs p no_channel) ∙ ap (λ (l : List ℕ). get_or l p 0) (sym names) ∙ place_at w (take n key) (omega arith) in
-      rw name at (active-named cs p (omega arith) (sym (flag_at p h) ∙ b.1))
+      rw name at (active_named cs p (omega arith) (sym (flag_at p h) ∙ b.1))
 
-  active-in-key : all_distinct (map channel_name cs) ≡ true → (w : ℕ) → elem w (named cs) ≡ true → is_active_name key n w ≡ true
-  active-in-key d w e =
+  active_in_key : all_distinct (map channel_name cs) ≡ true → (w : ℕ) → elem w (named cs) ≡ true → is_active_name key n w ≡ true
+  active_in_key d w e =
       let p = index_in key n w in
       let q : p ≡ index_of w (map channel_name cs) = ap (index_of w) names in
-      let r = named-place w cs d e in
+      let r = named_place w cs d e in
       let h : p < n = omega (arith, q, r.0, k) in
       rw (lt-ltb p n h) (flag_at p h ∙ ap (λ (i : ℕ). active (get_or cs i no_channel)) q ∙ r.1)
 
-  pub active-is : all_distinct (map channel_name cs) ≡ true → (w : ℕ) → is_active_name key n w ≡ elem w (named cs)
-  active-is d w = same (is_active_name key n w) (elem w (named cs)) (active-by-key w) (active-in-key d w)
+  pub active_is : all_distinct (map channel_name cs) ≡ true → (w : ℕ) → is_active_name key n w ≡ elem w (named cs)
+  active_is d w = same (is_active_name key n w) (elem w (named cs)) (active_by_key w) (active_in_key d w)
     where
       same : (a b : Bool) → (a ≡ true → b ≡ true) → (b ≡ true → a ≡ true) → a ≡ b
       same true b f g = sym (f refl)

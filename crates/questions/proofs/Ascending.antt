@@ -11,20 +11,20 @@ use lib.ListN.{take}
 use lib.Seq.{slice}
 use mir.Facts.{and_yes, yes_and, or_yes}
 use Rattle.doubles.specs.Arithmetic.{one64, minus_one64}
-use Rattle.doubles.proofs.Alike.{alike_of, lt_same, same-lt}
+use Rattle.doubles.proofs.Alike.{alike_of, lt_same, same_lt}
 use Rattle.lists.specs.Lists.{all_of, chain_from}
 use Rattle.layout.specs.Questions.{in_room, ordered}
-use Rattle.layout.proofs.Coordinates.{all-taken, all-dropped}
-use Rattle.layout.proofs.LessThan.{less-trans}
+use Rattle.layout.proofs.Coordinates.{all_taken, all_dropped}
+use Rattle.layout.proofs.LessThan.{less_trans}
 use Rattle.layout.proofs.QuestionsLoops.{holds, is_true}
 use Rattle.keys.specs.InKey.{double}
 
-in-room : (x : Float) → in_room x ≡ (le minus_one64 x && le x one64)
+in_room_lem : (x : Float) → in_room x ≡ (le minus_one64 x && le x one64)
 unfolding le lt eq
-in-room nan = refl
-in-room (inf false) = refl
-in-room (inf true) = refl
-in-room (fin s m e) = refl
+in_room_lem nan = refl
+in_room_lem (inf false) = refl
+in_room_lem (inf true) = refl
+in_room_lem (fin s m e) = refl
 
 -- ---- what lies above one that is at least -1, and below one that is at most 1
 or_left : (a b : Bool) → T a → T (a || b)
@@ -35,13 +35,13 @@ above : (x y : Float) → T (fits binary64 x) → T (le minus_one64 x) → T (lt
 unfolding le fits
 above x y f h k =
     or_left (lt minus_one64 y) (eq minus_one64 y)
-    (⊎_elim (λ u. less-trans minus_one64 x y u k) (λ u. subst T (sym (lt_same minus_one64 x (alike_of minus_one64 x tt f u) y)) k) (or_yes (lt minus_one64 x) (eq minus_one64 x) h))
+    (⊎_elim (λ u. less_trans minus_one64 x y u k) (λ u. subst T (sym (lt_same minus_one64 x (alike_of minus_one64 x tt f u) y)) k) (or_yes (lt minus_one64 x) (eq minus_one64 x) h))
 
 under : (x y : Float) → T (fits binary64 y) → T (le y one64) → T (lt x y) → T (le x one64)
 unfolding le fits
 under x y f h k =
     or_left (lt x one64) (eq x one64)
-    (⊎_elim (λ u. less-trans x y one64 k u) (λ u. subst T (same-lt y one64 (alike_of y one64 f tt u) x) k) (or_yes (lt y one64) (eq y one64) h))
+    (⊎_elim (λ u. less_trans x y one64 k u) (λ u. subst T (same_lt y one64 (alike_of y one64 f tt u) x) k) (or_yes (lt y one64) (eq y one64) h))
 
 -- ---- lists
 abbrev pub last_of : Float → List Float → Float
@@ -53,7 +53,7 @@ abbrev pub goes_on : Float → List Float → Bool
 goes_on x ys = chain_from lt x ys && le (last_of x ys) one64
 
 from_first : (x : Float) (ys : List Float) → T (fits binary64 x) → T (all_of (fits binary64) ys) → (le minus_one64 x && goes_on x ys) ≡ ordered (x ∷ ys)
-from_first x [] f h = rw in-room (go (le minus_one64 x) (le x one64))
+from_first x [] f h = rw in_room_lem (go (le minus_one64 x) (le x one64))
   where
     go : (a b : Bool) → (a && (true && b)) ≡ (((a && b) && true) && true)
     go true true = refl
@@ -61,10 +61,10 @@ from_first x [] f h = rw in-room (go (le minus_one64 x) (le x one64))
     go false b = refl
 from_first x (y ∷ ys) f h =
     let p = and_yes (fits binary64 y) (all_of (fits binary64) ys) h in
-    rw (in-room x)
+    rw (in_room_lem x)
     (go (le minus_one64 x) (le minus_one64 y) (lt x y) (le x one64) (in_room y) (all_of in_room ys) (chain_from lt y ys) (le (last_of y ys) one64)
     (λ a b. is_true _ (above x y f (holds _ a) (holds _ b)))
-    (λ a b. is_true _ (under x y p.0 (and_yes (le minus_one64 y) (le y one64) (subst T (in-room y) (holds _ a))).1 (holds _ b)))
+    (λ a b. is_true _ (under x y p.0 (and_yes (le minus_one64 y) (le y one64) (subst T (in_room_lem y) (holds _ a))).1 (holds _ b)))
     (from_first y ys p.0 p.1))
   where
     go : (a b l u r s c e : Bool) → (a ≡ true → l ≡ true → b ≡ true) → (r ≡ true → l ≡ true → u ≡ true) → (b && (c && e)) ≡ ((r && s) && c)
@@ -91,8 +91,8 @@ from_first x (y ∷ ys) f h =
             none false = refl
 
 -- one more
-pub goes-next : (g : Bool) (x y z : Float) (l ys : List Float) → l ≡ y ∷ ys → z ≡ y → ((g && lt x z) && goes_on z ys) ≡ (g && goes_on x l)
-goes-next g x y z l ys e f = rw (e, f) (and_assoc g (lt x y) (goes_on y ys) ∙ ap (λ (b : Bool). g && b) (sym (and_assoc (lt x y) (chain_from lt y ys) (le (last_of y ys) one64))))
+pub goes_next : (g : Bool) (x y z : Float) (l ys : List Float) → l ≡ y ∷ ys → z ≡ y → ((g && lt x z) && goes_on z ys) ≡ (g && goes_on x l)
+goes_next g x y z l ys e f = rw (e, f) (and_assoc g (lt x y) (goes_on y ys) ∙ ap (λ (b : Bool). g && b) (sym (and_assoc (lt x y) (chain_from lt y ys) (le (last_of y ys) one64))))
 
 -- ---- doubles by their patterns
 all_fit : (bs : List ℕ) → T (all_of (fits binary64) (map double bs))
@@ -100,7 +100,7 @@ all_fit [] = tt
 all_fit (b ∷ bs) = yes_and (fits binary64 (double b)) (all_of (fits binary64) (map double bs)) (of_bits-fits binary64 b) (all_fit bs)
 
 pub slice_fits : (a b : ℕ) (bs : List ℕ) → T (all_of (fits binary64) (slice a b (map double bs)))
-slice_fits a b bs = all-dropped (fits binary64) a (take b (map double bs)) (all-taken (fits binary64) b (map double bs) (all_fit bs))
+slice_fits a b bs = all_dropped (fits binary64) a (take b (map double bs)) (all_taken (fits binary64) b (map double bs) (all_fit bs))
 
 pub goes_first : (x z : Float) (l ys : List Float) → T (all_of (fits binary64) l) → l ≡ x ∷ ys → z ≡ x → (le minus_one64 z && goes_on z ys) ≡ ordered l
 goes_first x z l ys h e f =

@@ -9,18 +9,18 @@ use lib.Dec.{eqb}
 use lib.ListN.{length, take, get_or, set, length-set}
 use lib.Seq.{slice, length-slice, length-take-le, get_or-take, get_or-drop, get_or-set_same, get_or-set_other}
 use Rattle.lists.specs.Lists.{all_of, all_distinct, elem, index_of}
-use Rattle.lists.proofs.Loops.{slice-more, slice-done}
-use Rattle.lists.proofs.Tests.{elem-place, place_at}
+use Rattle.lists.proofs.Loops.{slice_more, slice_done}
+use Rattle.lists.proofs.Tests.{elem_place, place_at}
 use Rattle.layout.specs.Name.{valid_name}
 use Rattle.layout.proofs.QuestionsCounted.{both}
-use Rattle.layout.proofs.QuestionsLoops.{all-at}
+use Rattle.layout.proofs.QuestionsLoops.{all_at}
 use Rattle.questions.specs.Steps.KeyNames.{good_names, index_in, IndexOf}
 
 -- the place of a name is no later than any place where it stands
-place-le : (x : ℕ) (l : List ℕ) (p : ℕ) → p < length l → get_or l p 0 ≡ x → index_of x l ≤ p
-place-le x [] p h e = absurd (omega arith)
-place-le x (y ∷ l) zero h e = rw (eq-eqb y x e) (omega arith)
-place-le x (y ∷ l) (suc p) h e = go (eqb y x) (place-le x l p (omega arith) e)
+place_le : (x : ℕ) (l : List ℕ) (p : ℕ) → p < length l → get_or l p 0 ≡ x → index_of x l ≤ p
+place_le x [] p h e = absurd (omega arith)
+place_le x (y ∷ l) zero h e = rw (eq-eqb y x e) (omega arith)
+place_le x (y ∷ l) (suc p) h e = go (eqb y x) (place_le x l p (omega arith) e)
   where
     go : (b : Bool) → index_of x l ≤ p → cond b 0 (1 + index_of x l) ≤ suc p
     go true k = omega arith
@@ -43,24 +43,24 @@ named_none key n index l f r =
       few = f;
       long = l;
       room = r;
-      valid = rw (slice-done n n key refl);
+      valid = rw (slice_done n n key refl);
       told = λ j a b. absurd (omega arith);
-      distinct = λ _. rw (slice-done n n key refl);
+      distinct = λ _. rw (slice_done n n key refl);
     }
 
 module _ (key : List ℕ) (n : ℕ) (index : List ℕ) (clear : Bool) (i : ℕ) (inv : Named key n index clear i) where
   module _ (k : ℕ) (s : i ≡ k + 1) where
     here : slice k n key ≡ get_or key k 0 ∷ slice i n key
-    here = slice-more k n key 0 (omega (arith, inv.reached)) inv.long ∙ ap (λ (j : ℕ). get_or key k 0 ∷ slice j n key) (sym s)
+    here = slice_more k n key 0 (omega (arith, inv.reached)) inv.long ∙ ap (λ (j : ℕ). get_or key k 0 ∷ slice j n key) (sym s)
 
     -- a number that is no name
-    pub named-not : valid_name (get_or key k 0) ≡ false → false ≡ good_names key n
-    named-not q = go (all_of valid_name (take n key)) refl
+    pub named_not : valid_name (get_or key k 0) ≡ false → false ≡ good_names key n
+    named_not q = go (all_of valid_name (take n key)) refl
       where
         go : (b : Bool) → all_of valid_name (take n key) ≡ b → false ≡ (b && all_distinct (take n key))
         go false e = refl
         go true e =
-            absurd (false≢true (sym q ∙ ap valid_name (sym (get_or-take n key k 0 (omega (arith, inv.reached)))) ∙ all-at valid_name (take n key) k 0 e (omega (arith, length-take-le n key inv.long, inv.reached))))
+            absurd (false≢true (sym q ∙ ap valid_name (sym (get_or-take n key k 0 (omega (arith, inv.reached)))) ∙ all_at valid_name (take n key) k 0 e (omega (arith, length-take-le n key inv.long, inv.reached))))
 
     module _ (e : ℕ) (q : e ≡ get_or key k 0 % 167) (l : e < 167) where
       -- a free entry is that of none of the names behind
@@ -72,7 +72,7 @@ module _ (key : List ℕ) (n : ℕ) (index : List ℕ) (clear : Bool) (i : ℕ) 
           go true g =
               let x = get_or key k 0 in
               let p = index_of x (slice i n key) in
-              let h : p < length (slice i n key) = ltb-true p _ (sym (elem-place x (slice i n key)) ∙ g) in
+              let h : p < length (slice i n key) = ltb-true p _ (sym (elem_place x (slice i n key)) ∙ g) in
               let m : length (slice i n key) ≡ n - i = length-slice i n key inv.long in
               let r : i + p < n = omega arith in
               let same : get_or key (i + p) 0 ≡ x = sym (get_or-take n key (i + p) 0 r) ∙ sym (get_or-drop i (take n key) p 0) ∙ place_at x (slice i n key) h in
@@ -107,21 +107,21 @@ module _ (key : List ℕ) (n : ℕ) (index : List ℕ) (clear : Bool) (i : ℕ) 
 
   -- all are passed
   module _ (z : i ≡ 0) where
-    pub named-all : all_of valid_name (take n key) ≡ true
-    named-all = rw z at inv.valid
+    pub named_all : all_of valid_name (take n key) ≡ true
+    named_all = rw z at inv.valid
 
-    pub named-clear : clear ≡ true → true ≡ good_names key n
-    named-clear c = sym (rw (named-all, rw z at (inv.distinct c)))
+    pub named_clear : clear ≡ true → true ≡ good_names key n
+    named_clear c = sym (rw (named_all, rw z at (inv.distinct c)))
 
-    pub named-told : IndexOf key n index
-    named-told j h = inv.told j (omega arith) h
+    pub named_told : IndexOf key n index
+    named_told j h = inv.told j (omega arith) h
 
 -- ---- an entry that has the name is its place
-pub place-told : (key : List ℕ) (n : ℕ) (index : List ℕ) → n ≤ length key → IndexOf key n index → (w p : ℕ) → p ≡ get_or index (w % 167) 0 → p < n → get_or key p 0 ≡ w → p ≡ index_in key n w
-place-told key n index h t w p e k f =
+pub place_told : (key : List ℕ) (n : ℕ) (index : List ℕ) → n ≤ length key → IndexOf key n index → (w p : ℕ) → p ≡ get_or index (w % 167) 0 → p < n → get_or key p 0 ≡ w → p ≡ index_in key n w
+place_told key n index h t w p e k f =
     let l = length-take-le n key h in
     let q = index_in key n w in
-    let le : q ≤ p = place-le w (take n key) p (omega (arith, l)) (get_or-take n key p 0 k ∙ f) in
+    let le : q ≤ p = place_le w (take n key) p (omega (arith, l)) (get_or-take n key p 0 k ∙ f) in
     let at : get_or key q 0 ≡ w = sym (get_or-take n key q 0 (omega arith)) ∙ place_at w (take n key) (omega (arith, l)) in
     let ge : get_or index (get_or key q 0 % 167) 0 ≤ q = t q (omega arith) in
     let same : p ≡ get_or index (get_or key q 0 % 167) 0 = e ∙ ap (λ (x : ℕ). get_or index (x % 167) 0) (sym at) in

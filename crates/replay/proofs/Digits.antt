@@ -13,5 +13,5 @@ digit_lt c = go (ltb c 58)
     go true = omega arith
     go false = omega arith
 
-pub digit-small : (c r : ℕ) → r ≡ digit_of c → r < 16
-digit-small c r e = omega (arith, digit_lt c)
+pub digit_small : (c r : ℕ) → r ≡ digit_of c → r < 16
+digit_small c r e = omega (arith, digit_lt c)

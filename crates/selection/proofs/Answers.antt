@@ -17,7 +17,7 @@ use Rattle.region.specs.Zones.{is_default, is_include, is_no_constraints}
 use Rattle.keys.specs.InKey.{layout_in, room_in}
 use Rattle.selection.specs.Selection.{is_empty, has_anchors, has_rows, five_x, classed_layer, stays, passing, passing_from, selected_room, question9, question10}
 use Rattle.selection.specs.Steps.{is_set, row_flags, layer_flags, kept_flags, kept_room, with_layers, selection_questions, selected_key}
-use Rattle.selection.proofs.Tested.{kept-tested}
+use Rattle.selection.proofs.Tested.{kept_tested}
 
 -- ---- the first "no"
 abbrev by : Bool → Bool → Bool → Bool → Bool → Bool → ℕ → ℕ
@@ -39,71 +39,71 @@ module _ (s : RegionSemanticState) (key : List ℕ) where
   abbrev last : ℕ
   last = cond (question9 s (room_in key)) (cond (question10 s (room_in key)) 0 10) 9
 
-  pub first-no : first_no (selection_questions s key) ≡ cond (eqb asked 0) last asked
+  pub first_no_lem : first_no (selection_questions s key) ≡ cond (eqb asked 0) last asked
   unfolding selection_questions layout_questions
-  first-no = let l = layout_in key in by_first (question1 l) (question2 l) (question3 l) (question4 l) (question5 l) (question6 l) last
+  first_no_lem = let l = layout_in key in by_first (question1 l) (question2 l) (question3 l) (question4 l) (question5 l) (question6 l) last
 
-  key-after : (n : ℕ) → first_no (selection_questions s key) ≡ n → selected_key s key ≡ cond (eqb n 0) (cond (is_default s) key (with_layers key (selected_room s (room_in key)))) key
+  key_after_lem : (n : ℕ) → first_no (selection_questions s key) ≡ n → selected_key s key ≡ cond (eqb n 0) (cond (is_default s) key (with_layers key (selected_room s (room_in key)))) key
   unfolding selected_key
-  key-after n e = rw e
+  key_after_lem n e = rw e
 
   -- refused: the number, and the key as it was
   abbrev Refused : ℕ → Type 0
   Refused n = (n ≡ first_no (selection_questions s key)) × (key ≡ selected_key s key)
 
-  stays-key : (n : ℕ) → (n ≡ 0 → ⊥) → first_no (selection_questions s key) ≡ n → Refused n
-  stays-key n h e = (sym e, sym (key-after n e ∙ ap (λ (b : Bool). cond b (cond (is_default s) key (with_layers key (selected_room s (room_in key)))) key) (ne_eqb n 0 h)))
+  stays_key : (n : ℕ) → (n ≡ 0 → ⊥) → first_no (selection_questions s key) ≡ n → Refused n
+  stays_key n h e = (sym e, sym (key_after_lem n e ∙ ap (λ (b : Bool). cond b (cond (is_default s) key (with_layers key (selected_room s (room_in key)))) key) (ne_eqb n 0 h)))
 
-  pub refused-1-to-6 : (n : ℕ) → n ≡ asked → (n ≡ 0 → ⊥) → Refused n
-  refused-1-to-6 n e h = stays-key n h (first-no ∙ ap (λ (m : ℕ). cond (eqb m 0) last m) (sym e) ∙ ap (λ (b : Bool). cond b last n) (ne_eqb n 0 h))
+  pub refused_1_to_6 : (n : ℕ) → n ≡ asked → (n ≡ 0 → ⊥) → Refused n
+  refused_1_to_6 n e h = stays_key n h (first_no_lem ∙ ap (λ (m : ℕ). cond (eqb m 0) last m) (sym e) ∙ ap (λ (b : Bool). cond b last n) (ne_eqb n 0 h))
 
   module _ (none : asked ≡ 0) where
     passed : first_no (selection_questions s key) ≡ last
-    passed = first-no ∙ ap (λ (m : ℕ). cond (eqb m 0) last m) none
+    passed = first_no_lem ∙ ap (λ (m : ℕ). cond (eqb m 0) last m) none
 
-    pub refused-9 : question9 s (room_in key) ≡ false → Refused 9
-    refused-9 p = stays-key 9 (λ z. omega (arith, z)) (passed ∙ ap (λ (b : Bool). cond b (cond (question10 s (room_in key)) 0 10) 9) p)
+    pub refused_9 : question9 s (room_in key) ≡ false → Refused 9
+    refused_9 p = stays_key 9 (λ z. omega (arith, z)) (passed ∙ ap (λ (b : Bool). cond b (cond (question10 s (room_in key)) 0 10) 9) p)
 
     module _ (nine : question9 s (room_in key) ≡ true) where
       next : last ≡ cond (question10 s (room_in key)) 0 10
       next = ap (λ (b : Bool). cond b (cond (question10 s (room_in key)) 0 10) 9) nine
 
-      pub refused-10 : question10 s (room_in key) ≡ false → Refused 10
-      refused-10 p = stays-key 10 (λ z. omega (arith, z)) (passed ∙ next ∙ ap (λ (b : Bool). cond b 0 10) p)
+      pub refused_10 : question10 s (room_in key) ≡ false → Refused 10
+      refused_10 p = stays_key 10 (λ z. omega (arith, z)) (passed ∙ next ∙ ap (λ (b : Bool). cond b 0 10) p)
 
       -- accepted: 0, and the key by the state
       module _ (ten : question10 s (room_in key) ≡ true) where
-        pub answer-0 : 0 ≡ first_no (selection_questions s key)
-        answer-0 = sym (passed ∙ next ∙ ap (λ (b : Bool). cond b 0 10) ten)
+        pub answer_0 : 0 ≡ first_no (selection_questions s key)
+        answer_0 = sym (passed ∙ next ∙ ap (λ (b : Bool). cond b 0 10) ten)
 
         by_state : selected_key s key ≡ cond (is_default s) key (with_layers key (selected_room s (room_in key)))
-        by_state = key-after 0 (sym answer-0)
+        by_state = key_after_lem 0 (sym answer_0)
 
-        pub default-key : is_default s ≡ true → key ≡ selected_key s key
-        default-key d = sym (by_state ∙ ap (λ (b : Bool). cond b key (with_layers key (selected_room s (room_in key)))) d)
+        pub default_key : is_default s ≡ true → key ≡ selected_key s key
+        default_key d = sym (by_state ∙ ap (λ (b : Bool). cond b key (with_layers key (selected_room s (room_in key)))) d)
 
         pub other_key : is_default s ≡ false → with_layers key (selected_room s (room_in key)) ≡ selected_key s key
         other_key d = sym (by_state ∙ ap (λ (b : Bool). cond b key (with_layers key (selected_room s (room_in key)))) d)
 
 -- ---- the default state
 module _ (s : RegionSemanticState) (r : Room) where
-  pub default-ten : is_default s ≡ true → question10 s r ≡ true
-  default-ten e = go (is_no_constraints s.horizontal) e
+  pub default_ten : is_default s ≡ true → question10 s r ≡ true
+  default_ten e = go (is_no_constraints s.horizontal) e
     where
       go : (b : Bool) → (b && is_include s.top) ≡ true → (b || all_of (classed_layer (five_x r) s) r.layers) ≡ true
       go true q = refl
       go false q = absurd (true≢false (sym q))
 
-  pub default-nine : is_default s ≡ true → 1 ≤ length r.layers → question9 s r ≡ true
-  default-nine e h = ap (λ (b : Bool). leb 1 (length (cond b r (record { channels = r.channels; layers = filtered has_rows (passing_from (stays s r) 0 r.layers) })).layers)) e ∙ le-leb 1 (length r.layers) h
+  pub default_nine : is_default s ≡ true → 1 ≤ length r.layers → question9 s r ≡ true
+  default_nine e h = ap (λ (b : Bool). leb 1 (length (cond b r (record { channels = r.channels; layers = filtered has_rows (passing_from (stays s r) 0 r.layers) })).layers)) e ∙ le-leb 1 (length r.layers) h
 
-  pub default-room : is_default s ≡ true → selected_room s r ≡ r
-  default-room e = ap (λ (b : Bool). cond b r (record { channels = r.channels; layers = filtered has_rows (passing_from (stays s r) 0 r.layers) })) e
+  pub default_room : is_default s ≡ true → selected_room s r ≡ r
+  default_room e = ap (λ (b : Bool). cond b r (record { channels = r.channels; layers = filtered has_rows (passing_from (stays s r) 0 r.layers) })) e
 
-  pub other-room : is_default s ≡ false → selected_room s r ≡ kept_room (kept_flags s r) r
-  other-room e =
+  pub other_room : is_default s ≡ false → selected_room s r ≡ kept_room (kept_flags s r) r
+  other_room e =
       ap (λ (b : Bool). cond b r (record { channels = r.channels; layers = filtered has_rows (passing_from (stays s r) 0 r.layers) })) e
-      ∙ ap (λ (ys : List TopologyLayer). record { channels = r.channels; layers = ys }) (sym (kept-tested (stays s r) r.layers _))
+      ∙ ap (λ (ys : List TopologyLayer). record { channels = r.channels; layers = ys }) (sym (kept_tested (stays s r) r.layers _))
 
 -- ---- a layer is left where a flag is set
 any_append : (bs cs : List Bool) → any_of is_set (bs ++ cs) ≡ (any_of is_set bs || any_of is_set cs)
@@ -111,19 +111,19 @@ any_append [] cs = refl
 any_append (true ∷ bs) cs = refl
 any_append (false ∷ bs) cs = any_append bs cs
 
-none-set : (n k : ℕ) → any_of is_set (drop n (replicate k false)) ≡ false
-none-set zero zero = refl
-none-set (suc n) zero = refl
-none-set zero (suc k) = none-set zero k
-none-set (suc n) (suc k) = none-set n k
+none_set : (n k : ℕ) → any_of is_set (drop n (replicate k false)) ≡ false
+none_set zero zero = refl
+none_set (suc n) zero = refl
+none_set zero (suc k) = none_set zero k
+none_set (suc n) (suc k) = none_set n k
 
-or-false : (b : Bool) → (b || false) ≡ b
-or-false true = refl
-or-false false = refl
+or_false : (b : Bool) → (b || false) ≡ b
+or_false true = refl
+or_false false = refl
 
-anchors-left : (p : Anchor → Bool) (xs : List Anchor) → any_of is_set (map p xs) ≡ not (is_empty (filtered p xs))
-anchors-left p [] = refl
-anchors-left p (x ∷ xs) = go (p x) (anchors-left p xs)
+anchors_left_lem : (p : Anchor → Bool) (xs : List Anchor) → any_of is_set (map p xs) ≡ not (is_empty (filtered p xs))
+anchors_left_lem p [] = refl
+anchors_left_lem p (x ∷ xs) = go (p x) (anchors_left_lem p xs)
   where
     go : (b : Bool) → any_of is_set (map p xs) ≡ not (is_empty (filtered p xs)) → (b || any_of is_set (map p xs)) ≡ not (is_empty (cond b (x ∷ filtered p xs) (filtered p xs)))
     go true e = refl
@@ -131,7 +131,7 @@ anchors-left p (x ∷ xs) = go (p x) (anchors-left p xs)
 
 rows_left_lem : (p : Anchor → Bool) (ws : List TopologyRow) → any_of is_set (row_flags p ws) ≡ not (is_empty (filtered has_anchors (map (passing p) ws)))
 rows_left_lem p [] = refl
-rows_left_lem p (w ∷ ws) = any_append (map p w.anchors) (row_flags p ws) ∙ ap₂ ◌||◌ (anchors-left p w.anchors) (rows_left_lem p ws) ∙ go (has_anchors (passing p w))
+rows_left_lem p (w ∷ ws) = any_append (map p w.anchors) (row_flags p ws) ∙ ap₂ ◌||◌ (anchors_left_lem p w.anchors) (rows_left_lem p ws) ∙ go (has_anchors (passing p w))
   where
     go : (b : Bool) → (b || not (is_empty (filtered has_anchors (map (passing p) ws)))) ≡ not (is_empty (cond b (passing p w ∷ filtered has_anchors (map (passing p) ws)) (filtered has_anchors (map (passing p) ws))))
     go true = refl
@@ -141,19 +141,19 @@ some_left : (b : Bool) (y : TopologyLayer) (ys : List TopologyLayer) → (b || l
 some_left true y ys = sym (le-leb 1 (suc (length ys)) (omega arith))
 some_left false y ys = refl
 
-layers-left : (t : ℕ → TopologyLayer → Anchor → Bool) (i : ℕ) (ys : List TopologyLayer) → any_of is_set (layer_flags t i ys) ≡ leb 1 (length (filtered has_rows (passing_from t i ys)))
-layers-left t i [] = refl
-layers-left t i (y ∷ ys) =
+layers_left : (t : ℕ → TopologyLayer → Anchor → Bool) (i : ℕ) (ys : List TopologyLayer) → any_of is_set (layer_flags t i ys) ≡ leb 1 (length (filtered has_rows (passing_from t i ys)))
+layers_left t i [] = refl
+layers_left t i (y ∷ ys) =
     let z : TopologyLayer = record { z = y.z; rows = filtered has_anchors (map (passing (t i y)) y.rows) } in
     any_append (row_flags (t i y) y.rows) (layer_flags t (suc i) ys)
-    ∙ ap₂ ◌||◌ (rows_left_lem (t i y) y.rows) (layers-left t (suc i) ys)
+    ∙ ap₂ ◌||◌ (rows_left_lem (t i y) y.rows) (layers_left t (suc i) ys)
     ∙ some_left (has_rows z) z (filtered has_rows (passing_from t (suc i) ys))
 
-pub nine-by-flags : (s : RegionSemanticState) (r : Room) → is_default s ≡ false → any_of is_set (kept_flags s r) ≡ question9 s r
-nine-by-flags s r e =
+pub nine_by_flags : (s : RegionSemanticState) (r : Room) → is_default s ≡ false → any_of is_set (kept_flags s r) ≡ question9 s r
+nine_by_flags s r e =
     let f = layer_flags (stays s r) 0 r.layers in
     any_append f (drop (length f) (replicate 24 false))
-    ∙ ap (λ (b : Bool). any_of is_set f || b) (none-set (length f) 24)
-    ∙ or-false (any_of is_set f)
-    ∙ layers-left (stays s r) 0 r.layers
+    ∙ ap (λ (b : Bool). any_of is_set f || b) (none_set (length f) 24)
+    ∙ or_false (any_of is_set f)
+    ∙ layers_left (stays s r) 0 r.layers
     ∙ ap (λ (b : Bool). leb 1 (length (cond b r (record { channels = r.channels; layers = filtered has_rows (passing_from (stays s r) 0 r.layers) })).layers)) (sym e)

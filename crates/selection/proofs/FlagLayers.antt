@@ -10,17 +10,17 @@ use lib.ListN.{length, get_or, take, drop, set, replicate, length-set, length-ma
 use lib.Seq.{slice, drop-set-lt, drop-cons, drop-drop, take_all, take-append_seam, drop-append-add}
 use Rattle.doubles.specs.Arithmetic.{zero64}
 use Rattle.lists.specs.Lists.{all_of}
-use Rattle.lists.proofs.Loops.{slice-more}
-use Rattle.lists.proofs.Takes.{map-take}
+use Rattle.lists.proofs.Loops.{slice_more}
+use Rattle.lists.proofs.Takes.{map_take}
 use Rattle.lists.proofs.Filter.{store}
 use Rattle.layout.specs.declared.Anchor.{Anchor}
 use Rattle.layout.specs.declared.Layout.{Layout}
 use Rattle.layout.specs.Room.{room_of}
 use Rattle.layout.specs.Topology.{TopologyLayer, topology_of, rows_of, anchor_name}
 use Rattle.layout.specs.Steps.Starts.{row_starts, layer_starts, no_layer}
-use Rattle.layout.proofs.TopologyLists.{map-drop, all-concat, all_map}
+use Rattle.layout.proofs.TopologyLists.{map_drop, all_concat, all_map}
 use Rattle.layout.proofs.TopologyStarts.{topology_anchors}
-use Rattle.layout.proofs.TopologyFlat.{topology-length, topology-layer}
+use Rattle.layout.proofs.TopologyFlat.{topology_length, topology_layer}
 use Rattle.layout.proofs.Sizes.{Sized}
 use Rattle.region.specs.declared.RegionSemanticState.{RegionSemanticState}
 use Rattle.rules.specs.declared.rule.Rule.{Rule}
@@ -28,9 +28,9 @@ use Rattle.region.specs.Zones.{is_no_constraints}
 use Rattle.selection.specs.Selection.{five_x, is222, stays, question10, classed_layer}
 use Rattle.selection.specs.Steps.{flagged_from, has_class, row_flags, layer_flags, kept_flags}
 use Rattle.rules.specs.Steps.{rule_of, stays_by}
-use Rattle.kept_anchors.proofs.Counts.{slice-past}
-use Rattle.selection.proofs.Tested.{rows-flags}
-use Rattle.selection.proofs.LayerAnchors.{layer-start-rises, layer-start-most, layer-start-first, layer-anchors}
+use Rattle.kept_anchors.proofs.Counts.{slice_past}
+use Rattle.selection.proofs.Tested.{rows_flags}
+use Rattle.selection.proofs.LayerAnchors.{layer_start_rises, layer_start_most, layer_start_first, layer_anchors_lem}
 
 -- ---- the loop over one layer: `old` becomes its first `at` flags, those of the layer, and what lay behind
 module _ (p : ℕ → Bool) (names : List ℕ) (at end : ℕ) (old : List Bool) where
@@ -45,14 +45,14 @@ module _ (p : ℕ → Bool) (names : List ℕ) (at end : ℕ) (old : List Bool) 
     pub whole : take a out ++ (map p (slice a end names) ++ drop end old) ≡ flagged
     pub behind : drop end out ≡ drop end old
 
-  pub flag-none : length old ≡ 24 → at ≤ end → end ≤ 24 → end ≤ length names → Flagging old at
-  flag-none q h k m = record { begun = omega arith; reached = h; few = m; room = omega arith; whole = refl; behind = refl }
+  pub flag_none : length old ≡ 24 → at ≤ end → end ≤ 24 → end ≤ length names → Flagging old at
+  flag_none q h k m = record { begun = omega arith; reached = h; few = m; room = omega arith; whole = refl; behind = refl }
 
   module _ (out : List Bool) (a : ℕ) (w : Flagging out a) where
-    pub flag-more : (b : Bool) → a < end → b ≡ p (get_or names a 0) → Flagging (set out a b) (a + 1)
-    flag-more b h q =
+    pub flag_more : (b : Bool) → a < end → b ≡ p (get_or names a 0) → Flagging (set out a b) (a + 1)
+    flag_more b h q =
         let e : map p (slice a end names) ≡ b ∷ map p (slice (a + 1) end names) =
-        ap (map p) (slice-more a end names 0 h w.few) ∙ ap (λ (x : Bool). x ∷ map p (slice (a + 1) end names)) (sym q) in
+        ap (map p) (slice_more a end names 0 h w.few) ∙ ap (λ (x : Bool). x ∷ map p (slice (a + 1) end names)) (sym q) in
         record {
           begun = omega (arith, w.begun);
           reached = omega arith;
@@ -62,23 +62,23 @@ module _ (p : ℕ → Bool) (names : List ℕ) (at end : ℕ) (old : List Bool) 
           behind = drop-set-lt end out a b h ∙ w.behind;
         }
 
-    pub flag-done : end ≤ a → out ≡ flagged
-    flag-done h =
+    pub flag_done : end ≤ a → out ≡ flagged
+    flag_done h =
         let e : a ≡ end = omega (arith, w.reached) in
         sym (take-append-drop end out) ∙ ap (λ (t : List Bool). take end out ++ t) w.behind
-        ∙ rw (slice-past a end names h, e) at w.whole
+        ∙ rw (slice_past a end names h, e) at w.whole
 
 -- ---- the flags of the first layers
-map-slice : {A B : Type 0} (f : A → B) (a b : ℕ) (xs : List A) → map f (slice a b xs) ≡ slice a b (map f xs)
-map-slice f a b xs = map-drop f a (take b xs) ∙ ap (drop a) (map-take f b xs)
+map_slice : {A B : Type 0} (f : A → B) (a b : ℕ) (xs : List A) → map f (slice a b xs) ≡ slice a b (map f xs)
+map_slice f a b xs = map_drop f a (take b xs) ∙ ap (drop a) (map_take f b xs)
 
 -- one layer more
-layers-more : (t : ℕ → TopologyLayer → Anchor → Bool) (ys : List TopologyLayer) (i k j : ℕ) (d : TopologyLayer) → j ≡ i + k → k < length ys →
+layers_more : (t : ℕ → TopologyLayer → Anchor → Bool) (ys : List TopologyLayer) (i k j : ℕ) (d : TopologyLayer) → j ≡ i + k → k < length ys →
     layer_flags t i (take (suc k) ys) ≡ layer_flags t i (take k ys) ++ row_flags (t j (get_or ys k d)) (get_or ys k d).rows
-layers-more t [] i k j d e h = absurd (omega arith)
-layers-more t (y ∷ ys) i zero j d e h = append-nil (row_flags (t i y) y.rows) ∙ ap (λ (n : ℕ). row_flags (t n y) y.rows) (omega arith)
-layers-more t (y ∷ ys) i (suc k) j d e h =
-    ap (λ (r : List Bool). row_flags (t i y) y.rows ++ r) (layers-more t ys (suc i) k j d (omega arith) (omega arith))
+layers_more t [] i k j d e h = absurd (omega arith)
+layers_more t (y ∷ ys) i zero j d e h = append-nil (row_flags (t i y) y.rows) ∙ ap (λ (n : ℕ). row_flags (t n y) y.rows) (omega arith)
+layers_more t (y ∷ ys) i (suc k) j d e h =
+    ap (λ (r : List Bool). row_flags (t i y) y.rows ++ r) (layers_more t ys (suc i) k j d (omega arith) (omega arith))
     ∙ sym (append_assoc (row_flags (t i y) y.rows) (layer_flags t (suc i) (take k ys)) (row_flags (t j (get_or ys k d)) (get_or ys k d).rows))
 
 -- ---- the loop over the layers of a layout
@@ -87,10 +87,10 @@ module _ (l : Layout) (z : Sized l) (few : l.depth ≤ 4) where
   layer_at i = record { z = (get_or l.layers i no_layer).z; rows = slice (get_or (row_starts l) i 0) (get_or (row_starts l) (suc i) 0) (rows_of l.rows l.anchors) }
 
   here : (i : ℕ) → i < l.depth → get_or (topology_of l) i (layer_at i) ≡ layer_at i
-  here i h = topology-layer l z.layers z.rows z.anchors few i (layer_at i) h
+  here i h = topology_layer l z.layers z.rows z.anchors few i (layer_at i) h
 
   many : length (topology_of l) ≡ l.depth
-  many = topology-length l z.layers z.rows z.anchors few
+  many = topology_length l z.layers z.rows z.anchors few
 
   module _ (s : RegionSemanticState) where
     -- the flags of the first i layers
@@ -102,30 +102,30 @@ module _ (l : Layout) (z : Sized l) (few : l.depth ≤ 4) where
       pub sum : length (before i) ≡ get_or (layer_starts l) i 0
       pub whole : out ≡ before i ++ drop (length (before i)) (replicate 24 false)
 
-    pub layered-none : Layered (replicate 24 false) 0
-    layered-none = record { reached = omega arith; sum = sym (layer-start-first l z); whole = refl }
+    pub layered_none : Layered (replicate 24 false) 0
+    layered_none = record { reached = omega arith; sum = sym (layer_start_first l z); whole = refl }
 
     module _ (out : List Bool) (i : ℕ) (w : Layered out i) where
       -- what one turn writes
       before_more : i < l.depth → before (suc i) ≡ before i ++ map (stays s (room_of l) i (layer_at i)) (slice (get_or (layer_starts l) i 0) (get_or (layer_starts l) (suc i) 0) l.anchors)
       before_more h =
-          layers-more (stays s (room_of l)) (topology_of l) 0 i i (layer_at i) (omega arith) (omega (arith, many))
+          layers_more (stays s (room_of l)) (topology_of l) 0 i i (layer_at i) (omega arith) (omega (arith, many))
           ∙ ap (λ (y : TopologyLayer). before i ++ row_flags (stays s (room_of l) i y) y.rows) (here i h)
-          ∙ ap (λ (t : List Bool). before i ++ t) (rows-flags (stays s (room_of l) i (layer_at i)) (layer_at i).rows ∙ ap (map (stays s (room_of l) i (layer_at i))) (layer-anchors l z i (omega arith)))
+          ∙ ap (λ (t : List Bool). before i ++ t) (rows_flags (stays s (room_of l) i (layer_at i)) (layer_at i).rows ∙ ap (map (stays s (room_of l) i (layer_at i))) (layer_anchors_lem l z i (omega arith)))
 
-      pub layered-more : (r : List Bool) (rule : Rule) (flc five : Bool) → i < l.depth →
+      pub layered_more : (r : List Bool) (rule : Rule) (flc five : Bool) → i < l.depth →
           r ≡ flagged_from (stays_by rule) (map anchor_name l.anchors) (get_or (layer_starts l) i 0) (get_or (layer_starts l) (i + 1) 0) out →
           rule ≡ rule_of flc five s l.depth i (get_or l.layers i no_layer).z → flc ≡ is222 (room_of l) → five ≡ five_x (room_of l) → Layered r (i + 1)
-      layered-more r rule flc five h e er ew ef =
+      layered_more r rule flc five h e er ew ef =
           let er' : rule ≡ rule_of flc five s (length (topology_of l)) i (get_or l.layers i no_layer).z = er ∙ ap (λ (n : ℕ). rule_of flc five s n i (get_or l.layers i no_layer).z) (sym many) in
           let a = get_or (layer_starts l) i 0 in
           let b = get_or (layer_starts l) (suc i) 0 in
           let p = stays s (room_of l) i (layer_at i) in
           let blank = replicate 24 false in
-          let rise = layer-start-rises l z i (omega arith) in
-          let most = layer-start-most l z (suc i) (omega arith) in
+          let rise = layer_start_rises l z i (omega arith) in
+          let most = layer_start_most l z (suc i) (omega arith) in
           let m : map (stays_by (rule_of (is222 (room_of l)) (five_x (room_of l)) s (length (topology_of l)) i (get_or l.layers i no_layer).z)) (slice a b (map anchor_name l.anchors)) ≡ map p (slice a b l.anchors) =
-          ap (map (stays_by (rule_of (is222 (room_of l)) (five_x (room_of l)) s (length (topology_of l)) i (get_or l.layers i no_layer).z))) (sym (map-slice anchor_name a b l.anchors)) ∙ map-map _ anchor_name (slice a b l.anchors) in
+          ap (map (stays_by (rule_of (is222 (room_of l)) (five_x (room_of l)) s (length (topology_of l)) i (get_or l.layers i no_layer).z))) (sym (map_slice anchor_name a b l.anchors)) ∙ map-map _ anchor_name (slice a b l.anchors) in
           let n : length (map p (slice a b l.anchors)) ≡ b - a =
           length-map (slice a b l.anchors) p ∙ length-drop a (take b l.anchors) ∙ ap (λ (k : ℕ). k - a) (length-take b l.anchors) ∙ omega (arith, z.anchors) in
           let f = before_more h in
@@ -141,36 +141,36 @@ module _ (l : Layout) (z : Sized l) (few : l.depth ≤ 4) where
           ∙ ap₂ (λ (x : List Bool) (k : ℕ). x ++ drop k blank) (sym f) (sym sum) in
           rw add-one (record { reached = h; sum = sum; whole = q })
 
-      pub layered-done : l.depth ≤ i → out ≡ kept_flags s (room_of l)
-      layered-done h =
+      pub layered_done : l.depth ≤ i → out ≡ kept_flags s (room_of l)
+      layered_done h =
           let e : take i (topology_of l) ≡ topology_of l = take_all i (topology_of l) (omega (arith, many)) in
           w.whole ∙ ap (λ (t : List TopologyLayer). layer_flags (stays s (room_of l)) 0 t ++ drop (length (layer_flags (stays s (room_of l)) 0 t)) (replicate 24 false)) e
 
     -- ---- question 10
-    layer-test : (five : Bool) (i : ℕ) → i < l.depth →
+    layer_test : (five : Bool) (i : ℕ) → i < l.depth →
         classed_layer five s (layer_at i) ≡ (not (eq (layer_at i).z zero64) || all_of (has_class s.horizontal five) (slice (get_or (layer_starts l) i 0) (get_or (layer_starts l) (suc i) 0) (map anchor_name l.anchors)))
-    layer-test five i h =
+    layer_test five i h =
         let p : Anchor → Bool = λ a. has_class s.horizontal five (anchor_name a) in
         ap (λ (b : Bool). not (eq (layer_at i).z zero64) || b)
         (all_map topology_anchors (all_of p) (layer_at i).rows
-        ∙ all-concat p (map topology_anchors (layer_at i).rows)
-        ∙ ap (all_of p) (layer-anchors l z i (omega arith))
+        ∙ all_concat p (map topology_anchors (layer_at i).rows)
+        ∙ ap (all_of p) (layer_anchors_lem l z i (omega arith))
         ∙ all_map anchor_name (has_class s.horizontal five) (slice (get_or (layer_starts l) i 0) (get_or (layer_starts l) (suc i) 0) l.anchors)
-        ∙ ap (all_of (has_class s.horizontal five)) (map-slice anchor_name (get_or (layer_starts l) i 0) (get_or (layer_starts l) (suc i) 0) l.anchors))
+        ∙ ap (all_of (has_class s.horizontal five)) (map_slice anchor_name (get_or (layer_starts l) i 0) (get_or (layer_starts l) (suc i) 0) l.anchors))
 
     -- whether the layers that are left pass
     abbrev pub classed_from : Bool → ℕ → Bool
     classed_from five i = all_of (classed_layer five s) (drop i (topology_of l))
 
-    pub classed-more : (five r : Bool) (i : ℕ) → i < l.depth →
+    pub classed_more : (five r : Bool) (i : ℕ) → i < l.depth →
         r ≡ (not (eq (get_or l.layers i no_layer).z zero64) || all_of (has_class s.horizontal five) (slice (get_or (layer_starts l) i 0) (get_or (layer_starts l) (i + 1) 0) (map anchor_name l.anchors))) →
         classed_from five i ≡ (r && classed_from five (i + 1))
-    classed-more five r i h er =
+    classed_more five r i h er =
         let q = rw add-one at er in
-        rw (add-one, drop-cons (topology_of l) i (layer_at i) (omega (arith, many)), here i h, layer-test five i h, ← q)
+        rw (add-one, drop-cons (topology_of l) i (layer_at i) (omega (arith, many)), here i h, layer_test five i h, ← q)
 
-    pub classed-done : (five : Bool) (i : ℕ) → l.depth ≤ i → classed_from five i ≡ true
-    classed-done five i h = ap (all_of (classed_layer five s)) (drop_of_length-le (topology_of l) {i = i} (omega (arith, many)))
+    pub classed_done : (five : Bool) (i : ℕ) → l.depth ≤ i → classed_from five i ≡ true
+    classed_done five i h = ap (all_of (classed_layer five s)) (drop_of_length-le (topology_of l) {i = i} (omega (arith, many)))
 
-    pub classed-all : (free five b : Bool) → free ≡ is_no_constraints s.horizontal → free ≡ false → five ≡ five_x (room_of l) → classed_from five 0 ≡ b → b ≡ question10 s (room_of l)
-    classed-all free five b e f g q = sym q ∙ rw (sym e ∙ f, g)
+    pub classed_all : (free five b : Bool) → free ≡ is_no_constraints s.horizontal → free ≡ false → five ≡ five_x (room_of l) → classed_from five 0 ≡ b → b ≡ question10 s (room_of l)
+    classed_all free five b e f g q = sym q ∙ rw (sym e ∙ f, g)

@@ -14,8 +14,8 @@ use Rattle.layout.specs.declared.Layout.{Layout}
 use Rattle.layout.specs.Steps.Accepted.{Accepted}
 use Rattle.layout.specs.Topology.{used_layers, used_rows, used_anchors, layer_count, row_count, anchor_name}
 use Rattle.layout.specs.Steps.Starts.{row_starts, layer_starts}
-use Rattle.layout.proofs.TopologyLists.{total-within}
-use Rattle.layout.proofs.TopologyRanges.{row_next, row-most}
+use Rattle.layout.proofs.TopologyLists.{total_within}
+use Rattle.layout.proofs.TopologyRanges.{row_next, row_most}
 use Rattle.layout.proofs.TopologyStarts.{starts_first}
 use Rattle.keys.specs.InKey.{double, layout_in, room_in}
 use Rattle.region.specs.declared.RegionSemanticState.{RegionSemanticState}
@@ -25,16 +25,16 @@ use Rattle.rules.specs.declared.rule.Rule.{Rule}
 use Rattle.rules.specs.Steps.{rule_of, stays_by}
 use Rattle.selection.specs.Selection.{question10}
 use Rattle.selection.specs.Steps.{kept_flags, flagged_from, has_class}
-use Rattle.selection.proofs.FlagLayers.{Layered, layered-none, layered-more, layered-done, classed_from, classed-more, classed-done as done, classed-all}
-use Rattle.selection.proofs.LayerAnchors.{layer-start, layer-start-first}
-use Rattle.selection.proofs.KeyEntries.{mapped, Given, sized, few, five-is, flc-is, key-count, key-z, key-rows, key-anchors}
+use Rattle.selection.proofs.FlagLayers.{Layered, layered_none, layered_more, layered_done, classed_from, classed_more, classed_done as done, classed_all}
+use Rattle.selection.proofs.LayerAnchors.{layer_start, layer_start_first}
+use Rattle.selection.proofs.KeyEntries.{mapped, Given, sized, few, five_is, flc_is, key_count, key_z, key_rows, key_anchors}
 
 -- ---- sums of counts
-total-split : (a b : ℕ) (ns : List ℕ) → a ≤ b → total (take b ns) ≡ total (take a ns) + total (slice a b ns)
-total-split zero b ns h = omega arith
-total-split (suc a) zero ns h = absurd (omega arith)
-total-split (suc a) (suc b) [] h = omega arith
-total-split (suc a) (suc b) (n ∷ ns) h = let r = total-split a b ns (omega arith) in omega arith
+total_split : (a b : ℕ) (ns : List ℕ) → a ≤ b → total (take b ns) ≡ total (take a ns) + total (slice a b ns)
+total_split zero b ns h = omega arith
+total_split (suc a) zero ns h = absurd (omega arith)
+total_split (suc a) (suc b) [] h = omega arith
+total_split (suc a) (suc b) (n ∷ ns) h = let r = total_split a b ns (omega arith) in omega arith
 
 -- where the rows and the anchors of layer i begin
 pub record Begins (l : Layout) (row at i : ℕ) : Type 0 where
@@ -42,63 +42,63 @@ pub record Begins (l : Layout) (row at i : ℕ) : Type 0 where
   pub anchors : at ≡ get_or (layer_starts l) i 0
 
 module _ {l : Layout} {key : List ℕ} {used depth : ℕ} (g : Given l key used depth) where
-  begins-first : Begins l 0 0 0
-  begins-first = record { rows = sym (starts_first (map layer_count l.layers) 0); anchors = sym (layer-start-first l (sized g)) }
+  begins_first : Begins l 0 0 0
+  begins_first = record { rows = sym (starts_first (map layer_count l.layers) 0); anchors = sym (layer_start_first l (sized g)) }
 
   module _ (row at i : ℕ) (w : Begins l row at i) (h : i < depth) (rows end : ℕ) (p : rows ≡ min (row + get_or key (48 + i) 0) 24) (q : end ≡ min (at + total (slice row rows (drop 52 key))) 24) where
     inside : i < l.depth
     inside = omega (arith, g.layers)
 
     most : get_or (row_starts l) (suc i) 0 ≤ length (used_rows l)
-    most = row-most l (sized g).layers (sized g).rows g.accepted (suc i) inside
+    most = row_most l (sized g).layers (sized g).rows g.accepted (suc i) inside
 
-    next-rows : rows ≡ get_or (row_starts l) (suc i) 0
-    next-rows =
-        omega (arith, p, w.rows, key-count g i inside, row_next l (sized g).layers (sized g).rows g.accepted i inside, most, g.accepted.most_rows)
+    next_rows : rows ≡ get_or (row_starts l) (suc i) 0
+    next_rows =
+        omega (arith, p, w.rows, key_count g i inside, row_next l (sized g).layers (sized g).rows g.accepted i inside, most, g.accepted.most_rows)
 
-    next-anchors : end ≡ get_or (layer_starts l) (suc i) 0
-    next-anchors =
+    next_anchors : end ≡ get_or (layer_starts l) (suc i) 0
+    next_anchors =
         let a = get_or (row_starts l) i 0 in
         let b = get_or (row_starts l) (suc i) 0 in
         let ns = map row_count l.rows in
-        let s = ap total (key-rows g row rows (omega (arith, next-rows, most))) ∙ ap₂ (λ (m : ℕ) (n : ℕ). total (slice m n ns)) w.rows next-rows in
-        let t = total-split a b ns (omega (arith, row_next l (sized g).layers (sized g).rows g.accepted i inside)) in
-        omega (arith, q, w.anchors, s, t, layer-start l (sized g) i (omega (arith, few g, inside)), layer-start l (sized g) (suc i) (omega (arith, few g, inside)))
+        let s = ap total (key_rows g row rows (omega (arith, next_rows, most))) ∙ ap₂ (λ (m : ℕ) (n : ℕ). total (slice m n ns)) w.rows next_rows in
+        let t = total_split a b ns (omega (arith, row_next l (sized g).layers (sized g).rows g.accepted i inside)) in
+        omega (arith, q, w.anchors, s, t, layer_start l (sized g) i (omega (arith, few g, inside)), layer_start l (sized g) (suc i) (omega (arith, few g, inside)))
 
-    begins-next : Begins l rows end (i + 1)
-    begins-next = rw add-one (record { rows = next-rows; anchors = next-anchors })
+    begins_next : Begins l rows end (i + 1)
+    begins_next = rw add-one (record { rows = next_rows; anchors = next_anchors })
 
     fits : end ≤ length (used_anchors l)
     fits =
         let n = length (used_rows l) in
         let ns = map row_count l.rows in
         let t = ap total (mapped row_count (total (map layer_count (used_layers l))) l.rows) in
-        omega (arith, next-anchors, layer-start l (sized g) (suc i) (omega (arith, few g, inside)), total-within (get_or (row_starts l) (suc i) 0) n ns most, t, g.accepted.anchor_total)
+        omega (arith, next_anchors, layer_start l (sized g) (suc i) (omega (arith, few g, inside)), total_within (get_or (row_starts l) (suc i) 0) n ns most, t, g.accepted.anchor_total)
 
     -- the names of the layer's anchors
     names : slice at end (drop 76 key) ≡ slice (get_or (layer_starts l) i 0) (get_or (layer_starts l) (i + 1) 0) (map anchor_name l.anchors)
     names =
-        key-anchors g at end fits
-        ∙ ap₂ (λ (m : ℕ) (n : ℕ). slice m n (map anchor_name l.anchors)) w.anchors begins-next.anchors
+        key_anchors g at end fits
+        ∙ ap₂ (λ (m : ℕ) (n : ℕ). slice m n (map anchor_name l.anchors)) w.anchors begins_next.anchors
 
     module _ (s : RegionSemanticState) where
-      flags-next : (kept r : List Bool) (rule : Rule) (flc five : Bool) → Layered l (sized g) (few g) s kept i →
+      flags_next : (kept r : List Bool) (rule : Rule) (flc five : Bool) → Layered l (sized g) (few g) s kept i →
           r ≡ flagged_from (stays_by rule) (drop 76 key) at end kept →
           rule ≡ rule_of flc five s depth i (double (get_or key (100 + i) 0)) → flc ≡ any_of is_flc (take used key) → five ≡ not (any_of outside_five (take used key)) → Layered l (sized g) (few g) s r (i + 1)
-      flags-next kept r rule flc five v er eu ew ef =
+      flags_next kept r rule flc five v er eu ew ef =
           let joined : List Bool → List Bool → List Bool = λ x y. x ++ y in
-          layered-more l (sized g) (few g) s kept i v r rule flc five inside
-          (er ∙ ap₂ joined (ap (λ (n : ℕ). take n kept) w.anchors) (ap₂ joined (ap (map (stays_by rule)) names) (ap (λ (n : ℕ). drop n kept) begins-next.anchors)))
-          (eu ∙ ap₂ (λ (d : ℕ) (z : Float). rule_of flc five s d i z) g.layers (key-z g i inside))
-          (ew ∙ flc-is g)
-          (ef ∙ five-is g)
+          layered_more l (sized g) (few g) s kept i v r rule flc five inside
+          (er ∙ ap₂ joined (ap (λ (n : ℕ). take n kept) w.anchors) (ap₂ joined (ap (map (stays_by rule)) names) (ap (λ (n : ℕ). drop n kept) begins_next.anchors)))
+          (eu ∙ ap₂ (λ (d : ℕ) (z : Float). rule_of flc five s d i z) g.layers (key_z g i inside))
+          (ew ∙ flc_is g)
+          (ef ∙ five_is g)
 
-      classed-next : (five r : Bool) →
+      classed_next : (five r : Bool) →
           r ≡ (not (eq (double (get_or key (100 + i) 0)) zero64) || all_of (has_class s.horizontal five) (slice at end (drop 76 key))) →
           classed_from l (sized g) (few g) s five i ≡ (r && classed_from l (sized g) (few g) s five (i + 1))
-      classed-next five r er =
-          classed-more l (sized g) (few g) s five r i inside
-          (er ∙ ap₂ (λ (z : Float) (ns : List ℕ). not (eq z zero64) || all_of (has_class s.horizontal five) ns) (key-z g i inside) names)
+      classed_next five r er =
+          classed_more l (sized g) (few g) s five r i inside
+          (er ∙ ap₂ (λ (z : Float) (ns : List ℕ). not (eq z zero64) || all_of (has_class s.horizontal five) ns) (key_z g i inside) names)
 
 -- ---- the loops over the layers
 module _ (key : List ℕ) (used depth : ℕ) (s : RegionSemanticState) where
@@ -107,8 +107,8 @@ module _ (key : List ℕ) (used depth : ℕ) (s : RegionSemanticState) where
   FlagsTo kept row at i =
       (l : Layout) (g : Given l key used depth) → Begins l row at i × Layered l (sized g) (few g) s kept i
 
-  pub flags-none : (kept : List Bool) → kept ≡ replicate 24 false → FlagsTo kept 0 0 0
-  flags-none kept q l g = (begins-first g, rw q (layered-none l (sized g) (few g) s))
+  pub flags_none : (kept : List Bool) → kept ≡ replicate 24 false → FlagsTo kept 0 0 0
+  flags_none kept q l g = (begins_first g, rw q (layered_none l (sized g) (few g) s))
 
   -- whether the layers that are left have classes
   abbrev left : (l : Layout) → Given l key used depth → Bool → ℕ → Bool
@@ -121,48 +121,48 @@ module _ (key : List ℕ) (used depth : ℕ) (s : RegionSemanticState) where
   abbrev pub Left : Bool → ℕ → Bool → Type 0
   Left five i b = (l : Layout) (g : Given l key used depth) → left l g five i ≡ b
 
-  pub classed-none : (five : Bool) → ClassedFrom five 0 0 0
-  classed-none five l g = (begins-first g, refl)
+  pub classed_none : (five : Bool) → ClassedFrom five 0 0 0
+  classed_none five l g = (begins_first g, refl)
 
   module _ (row at i rows end : ℕ) (h : i < depth) (p : rows ≡ min (row + get_or key (48 + i) 0) 24) (q : end ≡ min (at + total (slice row rows (drop 52 key))) 24) where
-    pub flags-more : (kept r : List Bool) (rule : Rule) (flc five : Bool) → FlagsTo kept row at i →
+    pub flags_more : (kept r : List Bool) (rule : Rule) (flc five : Bool) → FlagsTo kept row at i →
         r ≡ flagged_from (stays_by rule) (drop 76 key) at end kept →
         rule ≡ rule_of flc five s depth i (double (get_or key (100 + i) 0)) → flc ≡ any_of is_flc (take used key) → five ≡ not (any_of outside_five (take used key)) → FlagsTo r rows end (i + 1)
-    flags-more kept r rule flc five f er eu ew ef l g =
+    flags_more kept r rule flc five f er eu ew ef l g =
         let v = f l g in (
-          begins-next g row at i v.0 h rows end p q,
-          flags-next g row at i v.0 h rows end p q s kept r rule flc five v.1 er eu ew ef,
+          begins_next g row at i v.0 h rows end p q,
+          flags_next g row at i v.0 h rows end p q s kept r rule flc five v.1 er eu ew ef,
         )
 
     module _ (five r : Bool) (f : ClassedFrom five row at i) (er : r ≡ (not (eq (double (get_or key (100 + i) 0)) zero64) || all_of (has_class s.horizontal five) (slice at end (drop 76 key)))) where
       one : (b : Bool) → r ≡ b → (l : Layout) (g : Given l key used depth) → left l g five i ≡ (b && left l g five (i + 1))
       one b t l g =
-          classed-next g row at i (f l g).0 h rows end p q s five r er
+          classed_next g row at i (f l g).0 h rows end p q s five r er
           ∙ ap (λ (c : Bool). c && left l g five (i + 1)) t
 
-      pub classed-not : r ≡ false → Left five i false
-      classed-not t l g = one false t l g
+      pub classed_not : r ≡ false → Left five i false
+      classed_not t l g = one false t l g
 
-      pub classed-step : r ≡ true → ClassedFrom five rows end (i + 1)
-      classed-step t l g =
+      pub classed_step : r ≡ true → ClassedFrom five rows end (i + 1)
+      classed_step t l g =
           let v = f l g in
-          (begins-next g row at i v.0 h rows end p q, v.1 ∙ one true t l g)
+          (begins_next g row at i v.0 h rows end p q, v.1 ∙ one true t l g)
 
   -- at the end all are written
-  pub flags-done : (kept : List Bool) (row at i : ℕ) → FlagsTo kept row at i → depth ≤ i →
+  pub flags_done : (kept : List Bool) (row at i : ℕ) → FlagsTo kept row at i → depth ≤ i →
       length key ≡ 156 → Accepted (layout_in key) → used ≡ (layout_in key).used → depth ≡ (layout_in key).depth → kept ≡ kept_flags s (room_in key)
-  flags-done kept row at i f h p a u d =
+  flags_done kept row at i f h p a u d =
       let l = layout_in key in
       let g : Given l key used depth = record { is = refl; long = p; accepted = a; channels = u; layers = d } in
-      layered-done l (sized g) (few g) s kept i (f l g).1 (omega arith)
+      layered_done l (sized g) (few g) s kept i (f l g).1 (omega arith)
 
   -- at the end none is left
-  pub classed-done : (five : Bool) (i : ℕ) → depth ≤ i → Left five i true
-  classed-done five i h l g = done l (sized g) (few g) s five i (omega (arith, g.layers))
+  pub classed_done : (five : Bool) (i : ℕ) → depth ≤ i → Left five i true
+  classed_done five i h l g = done l (sized g) (few g) s five i (omega (arith, g.layers))
 
-  pub classed-answer : (free five b : Bool) (row at i : ℕ) → ClassedFrom five row at i → free ≡ is_no_constraints s.horizontal → free ≡ false → five ≡ not (any_of outside_five (take used key)) → Left five i b →
+  pub classed_answer : (free five b : Bool) (row at i : ℕ) → ClassedFrom five row at i → free ≡ is_no_constraints s.horizontal → free ≡ false → five ≡ not (any_of outside_five (take used key)) → Left five i b →
       length key ≡ 156 → Accepted (layout_in key) → used ≡ (layout_in key).used → depth ≡ (layout_in key).depth → b ≡ question10 s (room_in key)
-  classed-answer free five b row at i f ef n ev q p a u d =
+  classed_answer free five b row at i f ef n ev q p a u d =
       let l = layout_in key in
       let g : Given l key used depth = record { is = refl; long = p; accepted = a; channels = u; layers = d } in
-      classed-all l (sized g) (few g) s free five b ef n (ev ∙ five-is g) ((f l g).1 ∙ q l g)
+      classed_all l (sized g) (few g) s free five b ef n (ev ∙ five_is g) ((f l g).1 ∙ q l g)

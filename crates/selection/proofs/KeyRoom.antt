@@ -14,8 +14,8 @@ use mir.Facts.{and_yes, yes_and}
 use Rattle.doubles.specs.Arithmetic.{one64, minus_one64}
 use Rattle.doubles.specs.Range.{is_between}
 use Rattle.lists.specs.Lists.{all_of, chain, total}
-use Rattle.lists.proofs.Chunks.{slice-take, slice_front}
-use Rattle.lists.proofs.Takes.{map-take}
+use Rattle.lists.proofs.Chunks.{slice_take, slice_front}
+use Rattle.lists.proofs.Takes.{map_take}
 use Rattle.lists.proofs.Zips.{map-map}
 use Rattle.layout.specs.declared.Layout.{Layout}
 use Rattle.layout.specs.Steps.Accepted.{Accepted}
@@ -23,13 +23,13 @@ use Rattle.layout.specs.Room.{rows_in, anchors_in}
 use Rattle.layout.specs.Topology.{topology_of, used_layers, used_rows, layer_count, layer_z, row_count, row_y, anchor_name, anchor_x}
 use Rattle.layout.specs.Questions.{in_room, ordered, ordered_layer, topology_y, topology_z, question5}
 use Rattle.layout.proofs.Sizes.{Sized}
-use Rattle.layout.proofs.Coordinates.{ys-in-room, xs-in-room}
-use Rattle.layout.proofs.TopologyFlat.{topology-z, topology-rows}
-use Rattle.layout.proofs.TopologyStarts.{rows-y}
+use Rattle.layout.proofs.Coordinates.{ys_in_room, xs_in_room}
+use Rattle.layout.proofs.TopologyFlat.{topology_z_lem, topology_rows_lem}
+use Rattle.layout.proofs.TopologyStarts.{rows_y}
 use Rattle.keys.specs.Keys.{rows_of_layer, anchors_of_row}
 use Rattle.keys.specs.InKey.{double, layout_in, room_in}
-use Rattle.keys.proofs.InKey.{layer-counts-are, zs-are, row-counts-are, ys-are, anchor-names-are, xs-are, sized}
-use Rattle.layout.proofs.RoomLists.{anchors-are, layer-counts, row_counts_lem, depth_is}
+use Rattle.keys.proofs.InKey.{layer_counts_are, zs_are, row_counts_are, ys_are, anchor_names_are, xs_are, sized}
+use Rattle.layout.proofs.RoomLists.{anchors_are, layer_counts_lem, row_counts_lem, depth_is}
 use Rattle.selection.specs.Steps.{z_bits, y_bits, x_bits}
 
 -- ---- a pattern that is no NaN's is that of its double
@@ -59,16 +59,16 @@ below (suc n) zero (x ∷ l) w = w 0
 below (suc n) (suc i) (x ∷ l) w = below n i l (λ j. w (suc j))
 
 module _ (key : List ℕ) (long : length key ≡ 156) (w : Words key) where
-  part-words : (a n : ℕ) → Words (slice a (a + n) key)
-  part-words a n i =
-      subst (λ (l : List ℕ). get_or l i 0 < 18446744073709551616) (sym (slice-take a n key))
+  part_words : (a n : ℕ) → Words (slice a (a + n) key)
+  part_words a n i =
+      subst (λ (l : List ℕ). get_or l i 0 < 18446744073709551616) (sym (slice_take a n key))
       (below n i (drop a key) (λ j. subst (λ (m : ℕ). m < 18446744073709551616) (sym (get_or-drop a key j 0)) (w (a + j))))
 
   -- the bits of the first m of a part's doubles
   bits : (a m most : ℕ) (fs gs : List Float) → m ≤ most → gs ≡ map double (slice a (a + most) key) → fs ≡ take m gs → T (all_of in_room fs) → map (to_bits binary64) fs ≡ slice a (a + m) key
   bits a m most fs gs h p q r =
-      let e : fs ≡ map double (slice a (a + m) key) = q ∙ ap (take m) p ∙ sym (map-take double m (slice a (a + most) key)) ∙ ap (map double) (slice_front key a m most h) in
-      ap (map (to_bits binary64)) e ∙ exact (slice a (a + m) key) (part-words a m) (subst (λ (l : List Float). T (all_of in_room l)) e r)
+      let e : fs ≡ map double (slice a (a + m) key) = q ∙ ap (take m) p ∙ sym (map_take double m (slice a (a + most) key)) ∙ ap (map double) (slice_front key a m most h) in
+      ap (map (to_bits binary64)) e ∙ exact (slice a (a + m) key) (part_words a m) (subst (λ (l : List Float). T (all_of in_room l)) e r)
 
   module _ (ac : Accepted (layout_in key)) where
     abbrev l : Layout
@@ -78,61 +78,61 @@ module _ (key : List ℕ) (long : length key ≡ 156) (w : Words key) where
     s = sized key long
 
     -- how many there are
-    layers-few : length (room_in key).layers ≤ 4
-    layers-few = omega (arith, depth_is l s ac, ac.few_layers)
+    layers_few : length (room_in key).layers ≤ 4
+    layers_few = omega (arith, depth_is l s ac, ac.few_layers)
 
-    rows-number : length (rows_in (room_in key)) ≡ total (map layer_count (used_layers l))
-    rows-number = sym (length-map (rows_in (room_in key)) anchors_of_row) ∙ ap length (row_counts_lem l s ac) ∙ length-map (used_rows l) row_count ∙ ac.row_total
+    rows_number : length (rows_in (room_in key)) ≡ total (map layer_count (used_layers l))
+    rows_number = sym (length-map (rows_in (room_in key)) anchors_of_row) ∙ ap length (row_counts_lem l s ac) ∙ length-map (used_rows l) row_count ∙ ac.row_total
 
     pub rows_few : length (rows_in (room_in key)) ≤ 24
-    rows_few = omega (arith, rows-number, ac.row_total, ac.most_rows)
+    rows_few = omega (arith, rows_number, ac.row_total, ac.most_rows)
 
-    anchors-number : length (anchors_in (room_in key)) ≡ total (map row_count (used_rows l))
-    anchors-number = ap length (anchors-are l) ∙ ac.anchor_total
+    anchors_number : length (anchors_in (room_in key)) ≡ total (map row_count (used_rows l))
+    anchors_number = ap length (anchors_are l) ∙ ac.anchor_total
 
-    pub anchors-few : length (anchors_in (room_in key)) ≤ 24
-    anchors-few = omega (arith, anchors-number, ac.anchor_total, ac.most_anchors)
+    pub anchors_few : length (anchors_in (room_in key)) ≤ 24
+    anchors_few = omega (arith, anchors_number, ac.anchor_total, ac.most_anchors)
 
     -- the counts and the names
     counted : {A : Type 0} (f : A → ℕ) (xs : List A) (ns : List ℕ) (a m n most : ℕ) → n ≡ m → n ≤ most → map f xs ≡ slice a (a + most) key → ns ≡ map f (take m xs) → slice a (a + n) key ≡ ns
     counted f xs ns a m n most e h p q =
-        sym (q ∙ map-take f m xs ∙ ap₂ take (sym e) p ∙ slice_front key a n most h)
+        sym (q ∙ map_take f m xs ∙ ap₂ take (sym e) p ∙ slice_front key a n most h)
 
-    pub layers-in : slice 48 (48 + length (room_in key).layers) key ≡ map rows_of_layer (room_in key).layers
-    layers-in = counted layer_count l.layers _ 48 l.depth _ 4 (depth_is l s ac) layers-few (layer-counts-are key long) (layer-counts l s ac)
+    pub layers_in_lem : slice 48 (48 + length (room_in key).layers) key ≡ map rows_of_layer (room_in key).layers
+    layers_in_lem = counted layer_count l.layers _ 48 l.depth _ 4 (depth_is l s ac) layers_few (layer_counts_are key long) (layer_counts_lem l s ac)
 
-    pub rows-in-key : slice 52 (52 + length (rows_in (room_in key))) key ≡ map anchors_of_row (rows_in (room_in key))
-    rows-in-key = counted row_count l.rows _ 52 (total (map layer_count (used_layers l))) _ 24 rows-number rows_few (row-counts-are key long) (row_counts_lem l s ac)
+    pub rows_in_key : slice 52 (52 + length (rows_in (room_in key))) key ≡ map anchors_of_row (rows_in (room_in key))
+    rows_in_key = counted row_count l.rows _ 52 (total (map layer_count (used_layers l))) _ 24 rows_number rows_few (row_counts_are key long) (row_counts_lem l s ac)
 
     pub names_in_lem : slice 76 (76 + length (anchors_in (room_in key))) key ≡ map anchor_name (anchors_in (room_in key))
-    names_in_lem = counted anchor_name l.anchors _ 76 (total (map row_count (used_rows l))) _ 24 anchors-number anchors-few (anchor-names-are key long) (ap (map anchor_name) (anchors-are l))
+    names_in_lem = counted anchor_name l.anchors _ 76 (total (map row_count (used_rows l))) _ 24 anchors_number anchors_few (anchor_names_are key long) (ap (map anchor_name) (anchors_are l))
 
     -- the coordinates
     yes5 : T (question5 l)
     unfolding question5
     yes5 = yes_and (ordered (map topology_z (topology_of l))) (all_of ordered_layer (topology_of l)) ac.z_ordered ac.layers_ordered
 
-    ys-of : map topology_y (rows_in (room_in key)) ≡ map row_y (used_rows l)
-    ys-of = ap (map topology_y) (topology-rows l) ∙ rows-y (used_rows l) l.anchors
+    ys_of : map topology_y (rows_in (room_in key)) ≡ map row_y (used_rows l)
+    ys_of = ap (map topology_y) (topology_rows_lem l) ∙ rows_y (used_rows l) l.anchors
 
-    pub zs-in : slice 100 (100 + length (room_in key).layers) key ≡ map z_bits (room_in key).layers
-    zs-in =
+    pub zs_in : slice 100 (100 + length (room_in key).layers) key ≡ map z_bits (room_in key).layers
+    zs_in =
         sym
         (map-map topology_z (to_bits binary64) (topology_of l)
-        ∙ bits 100 (length (topology_of l)) 4 (map topology_z (topology_of l)) (map layer_z l.layers) layers-few (zs-are key long) (topology-z l ∙ ap (λ (n : ℕ). take n (map layer_z l.layers)) (sym (depth_is l s ac))) (and_yes (all_of in_room (map topology_z (topology_of l))) (chain lt (map topology_z (topology_of l))) ac.z_ordered).0)
+        ∙ bits 100 (length (topology_of l)) 4 (map topology_z (topology_of l)) (map layer_z l.layers) layers_few (zs_are key long) (topology_z_lem l ∙ ap (λ (n : ℕ). take n (map layer_z l.layers)) (sym (depth_is l s ac))) (and_yes (all_of in_room (map topology_z (topology_of l))) (chain lt (map topology_z (topology_of l))) ac.z_ordered).0)
 
-    pub ys-in-key : slice 104 (104 + length (rows_in (room_in key))) key ≡ map y_bits (rows_in (room_in key))
-    ys-in-key =
+    pub ys_in_key : slice 104 (104 + length (rows_in (room_in key))) key ≡ map y_bits (rows_in (room_in key))
+    ys_in_key =
         sym
         (map-map topology_y (to_bits binary64) (rows_in (room_in key))
-        ∙ bits 104 (length (rows_in (room_in key))) 24 (map topology_y (rows_in (room_in key))) (map row_y l.rows) rows_few (ys-are key long)
-        (ys-of ∙ map-take row_y (total (map layer_count (used_layers l))) l.rows ∙ ap (λ (n : ℕ). take n (map row_y l.rows)) (sym rows-number))
-        (subst (λ (v : List Float). T (all_of in_room v)) (sym ys-of) (ys-in-room l yes5)))
+        ∙ bits 104 (length (rows_in (room_in key))) 24 (map topology_y (rows_in (room_in key))) (map row_y l.rows) rows_few (ys_are key long)
+        (ys_of ∙ map_take row_y (total (map layer_count (used_layers l))) l.rows ∙ ap (λ (n : ℕ). take n (map row_y l.rows)) (sym rows_number))
+        (subst (λ (v : List Float). T (all_of in_room v)) (sym ys_of) (ys_in_room l yes5)))
 
-    pub xs-in-key : slice 128 (128 + length (anchors_in (room_in key))) key ≡ map x_bits (anchors_in (room_in key))
-    xs-in-key =
+    pub xs_in_key : slice 128 (128 + length (anchors_in (room_in key))) key ≡ map x_bits (anchors_in (room_in key))
+    xs_in_key =
         sym
         (map-map anchor_x (to_bits binary64) (anchors_in (room_in key))
-        ∙ bits 128 (length (anchors_in (room_in key))) 24 (map anchor_x (anchors_in (room_in key))) (map anchor_x l.anchors) anchors-few (xs-are key long)
-        (ap (map anchor_x) (anchors-are l) ∙ map-take anchor_x (total (map row_count (used_rows l))) l.anchors ∙ ap (λ (n : ℕ). take n (map anchor_x l.anchors)) (sym anchors-number))
-        (subst (λ (v : List Float). T (all_of in_room v)) (sym (ap (map anchor_x) (anchors-are l))) (xs-in-room l yes5)))
+        ∙ bits 128 (length (anchors_in (room_in key))) 24 (map anchor_x (anchors_in (room_in key))) (map anchor_x l.anchors) anchors_few (xs_are key long)
+        (ap (map anchor_x) (anchors_are l) ∙ map_take anchor_x (total (map row_count (used_rows l))) l.anchors ∙ ap (λ (n : ℕ). take n (map anchor_x l.anchors)) (sym anchors_number))
+        (subst (λ (v : List Float). T (all_of in_room v)) (sym (ap (map anchor_x) (anchors_are l))) (xs_in_room l yes5)))

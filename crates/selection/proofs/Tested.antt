@@ -14,48 +14,48 @@ use Rattle.kept_anchors.specs.Steps.Kept.{picked}
 use Rattle.selection.specs.Steps.{picked_rows, anchor_number, picked_layers, without_empty_rows, kept_topology, row_flags, layer_flags}
 
 module _ (p : Anchor → Bool) where
-  picked-answers : (xs : List Anchor) (bs : List Bool) → picked (map p xs ++ bs) xs ≡ filtered p xs
-  picked-answers [] [] = refl
-  picked-answers [] (b ∷ bs) = refl
-  picked-answers (x ∷ xs) bs = ap (λ (l : List Anchor). cond (p x) (x ∷ l) l) (picked-answers xs bs)
+  picked_answers : (xs : List Anchor) (bs : List Bool) → picked (map p xs ++ bs) xs ≡ filtered p xs
+  picked_answers [] [] = refl
+  picked_answers [] (b ∷ bs) = refl
+  picked_answers (x ∷ xs) bs = ap (λ (l : List Anchor). cond (p x) (x ∷ l) l) (picked_answers xs bs)
 
-  drop-answers : (xs : List Anchor) (bs : List Bool) → drop (length xs) (map p xs ++ bs) ≡ bs
-  drop-answers [] bs = refl
-  drop-answers (x ∷ xs) bs = drop-answers xs bs
+  drop_answers : (xs : List Anchor) (bs : List Bool) → drop (length xs) (map p xs ++ bs) ≡ bs
+  drop_answers [] bs = refl
+  drop_answers (x ∷ xs) bs = drop_answers xs bs
 
-  rows-tested : (rs : List TopologyRow) (bs : List Bool) → picked_rows (row_flags p rs ++ bs) rs ≡ map (passing p) rs
-  rows-tested [] bs = refl
-  rows-tested (r ∷ rs) bs =
+  rows_tested : (rs : List TopologyRow) (bs : List Bool) → picked_rows (row_flags p rs ++ bs) rs ≡ map (passing p) rs
+  rows_tested [] bs = refl
+  rows_tested (r ∷ rs) bs =
       let e = append_assoc (map p r.anchors) (row_flags p rs) bs in
       ap₂ {C = List TopologyRow} (λ (t : List Anchor) (u : List TopologyRow). record { y = r.y; anchors = t } ∷ u)
-      (ap (λ (b : List Bool). picked b r.anchors) e ∙ picked-answers r.anchors (row_flags p rs ++ bs))
-      (ap (λ (b : List Bool). picked_rows (drop (length r.anchors) b) rs) e ∙ ap (λ (b : List Bool). picked_rows b rs) (drop-answers r.anchors (row_flags p rs ++ bs)) ∙ rows-tested rs bs)
+      (ap (λ (b : List Bool). picked b r.anchors) e ∙ picked_answers r.anchors (row_flags p rs ++ bs))
+      (ap (λ (b : List Bool). picked_rows (drop (length r.anchors) b) rs) e ∙ ap (λ (b : List Bool). picked_rows b rs) (drop_answers r.anchors (row_flags p rs ++ bs)) ∙ rows_tested rs bs)
 
-  drop-rows : (rs : List TopologyRow) (bs : List Bool) → drop (anchor_number rs) (row_flags p rs ++ bs) ≡ bs
-  drop-rows [] bs = refl
-  drop-rows (r ∷ rs) bs =
+  drop_rows : (rs : List TopologyRow) (bs : List Bool) → drop (anchor_number rs) (row_flags p rs ++ bs) ≡ bs
+  drop_rows [] bs = refl
+  drop_rows (r ∷ rs) bs =
       sym (drop-drop (anchor_number rs) (length r.anchors) (row_flags p (r ∷ rs) ++ bs))
       ∙ ap (λ (b : List Bool). drop (anchor_number rs) (drop (length r.anchors) b)) (append_assoc (map p r.anchors) (row_flags p rs) bs)
-      ∙ ap (drop (anchor_number rs)) (drop-answers r.anchors (row_flags p rs ++ bs))
-      ∙ drop-rows rs bs
+      ∙ ap (drop (anchor_number rs)) (drop_answers r.anchors (row_flags p rs ++ bs))
+      ∙ drop_rows rs bs
 
   -- one flag for each anchor
-  pub rows-flags : (rs : List TopologyRow) → row_flags p rs ≡ map p (flatten (map topology_anchors rs))
-  rows-flags [] = refl
-  rows-flags (r ∷ rs) = ap (λ (t : List Bool). map p r.anchors ++ t) (rows-flags rs) ∙ sym (map-append p r.anchors (flatten (map topology_anchors rs)))
+  pub rows_flags : (rs : List TopologyRow) → row_flags p rs ≡ map p (flatten (map topology_anchors rs))
+  rows_flags [] = refl
+  rows_flags (r ∷ rs) = ap (λ (t : List Bool). map p r.anchors ++ t) (rows_flags rs) ∙ sym (map-append p r.anchors (flatten (map topology_anchors rs)))
 
 -- each layer with its test, told by its place i and by what it is
 module _ (test : ℕ → TopologyLayer → Anchor → Bool) where
-  layers-tested : (i : ℕ) (ls : List TopologyLayer) (bs : List Bool) → map without_empty_rows (picked_layers (layer_flags test i ls ++ bs) ls) ≡ passing_from test i ls
-  layers-tested i [] bs = refl
-  layers-tested i (l ∷ ls) bs =
+  layers_tested : (i : ℕ) (ls : List TopologyLayer) (bs : List Bool) → map without_empty_rows (picked_layers (layer_flags test i ls ++ bs) ls) ≡ passing_from test i ls
+  layers_tested i [] bs = refl
+  layers_tested i (l ∷ ls) bs =
       let cs = layer_flags test (suc i) ls in
       let e = append_assoc (row_flags (test i l) l.rows) cs bs in
       ap₂ {C = List TopologyLayer} (λ (t : List TopologyRow) (u : List TopologyLayer). record { z = l.z; rows = filtered has_anchors t } ∷ u)
-      (ap (λ (b : List Bool). picked_rows b l.rows) e ∙ rows-tested (test i l) l.rows (cs ++ bs))
+      (ap (λ (b : List Bool). picked_rows b l.rows) e ∙ rows_tested (test i l) l.rows (cs ++ bs))
       (ap (λ (b : List Bool). map without_empty_rows (picked_layers (drop (anchor_number l.rows) b) ls)) e
-      ∙ ap (λ (b : List Bool). map without_empty_rows (picked_layers b ls)) (drop-rows (test i l) l.rows (cs ++ bs))
-      ∙ layers-tested (suc i) ls bs)
+      ∙ ap (λ (b : List Bool). map without_empty_rows (picked_layers b ls)) (drop_rows (test i l) l.rows (cs ++ bs))
+      ∙ layers_tested (suc i) ls bs)
 
-  pub kept-tested : (ls : List TopologyLayer) (bs : List Bool) → kept_topology (layer_flags test 0 ls ++ bs) ls ≡ filtered has_rows (passing_from test 0 ls)
-  kept-tested ls bs = ap (filtered has_rows) (layers-tested 0 ls bs)
+  pub kept_tested : (ls : List TopologyLayer) (bs : List Bool) → kept_topology (layer_flags test 0 ls ++ bs) ls ≡ filtered has_rows (passing_from test 0 ls)
+  kept_tested ls bs = ap (filtered has_rows) (layers_tested 0 ls bs)

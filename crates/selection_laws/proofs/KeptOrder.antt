@@ -12,59 +12,59 @@ use Rattle.layout.specs.Questions.{in_room, ordered, ordered_row, ordered_layer,
 use Rattle.selection.specs.Selection.{has_anchors, has_rows}
 use Rattle.kept_anchors.specs.Steps.Kept.{picked}
 use Rattle.selection.specs.Steps.{picked_rows, anchor_number, picked_layers, without_empty_rows, kept_topology}
-use Rattle.layout.proofs.LessThan.{less-trans}
-use Rattle.kept_anchors.proofs.Picked.{filter-picked, map-picked}
-use Rattle.selection_laws.proofs.Sublists.{all-picked, chain-picked}
+use Rattle.layout.proofs.LessThan.{less_trans}
+use Rattle.kept_anchors.proofs.Picked.{filter_picked, map_picked}
+use Rattle.selection_laws.proofs.Sublists.{all_picked, chain_picked}
 
-ordered-picked : (bs : List Bool) (xs : List Float) → T (ordered xs) → T (ordered (picked bs xs))
-ordered-picked bs xs h =
+ordered_picked : (bs : List Bool) (xs : List Float) → T (ordered xs) → T (ordered (picked bs xs))
+ordered_picked bs xs h =
     let e = and_yes (all_of in_room xs) (chain lt xs) h in
-    yes_and (all_of in_room (picked bs xs)) (chain lt (picked bs xs)) (all-picked in_room bs xs e.0) (chain-picked lt less-trans bs xs e.1)
+    yes_and (all_of in_room (picked bs xs)) (chain lt (picked bs xs)) (all_picked in_room bs xs e.0) (chain_picked lt less_trans bs xs e.1)
 
 -- the coordinates of those that pass a test
-ordered-filter : {A : Type 0} (p : A → Bool) (f : A → Float) (xs : List A) → T (ordered (map f xs)) → T (ordered (map f (filtered p xs)))
-ordered-filter p f xs h =
-    rw (filter-picked p xs, map-picked f (map p xs) xs) (ordered-picked (map p xs) (map f xs) h)
+ordered_filter : {A : Type 0} (p : A → Bool) (f : A → Float) (xs : List A) → T (ordered (map f xs)) → T (ordered (map f (filtered p xs)))
+ordered_filter p f xs h =
+    rw (filter_picked p xs, map_picked f (map p xs) xs) (ordered_picked (map p xs) (map f xs) h)
 
 all_filter : {A : Type 0} (p q : A → Bool) (xs : List A) → T (all_of q xs) → T (all_of q (filtered p xs))
-all_filter p q xs h = rw (filter-picked p xs) (all-picked q (map p xs) xs h)
+all_filter p q xs h = rw (filter_picked p xs) (all_picked q (map p xs) xs h)
 
 -- ---- the rows of a layer
-same-ys : (bs : List Bool) (rs : List TopologyRow) → map topology_y (picked_rows bs rs) ≡ map topology_y rs
-same-ys bs [] = refl
-same-ys bs (r ∷ rs) = ap (λ (l : List Float). r.y ∷ l) (same-ys (drop (length r.anchors) bs) rs)
+same_ys : (bs : List Bool) (rs : List TopologyRow) → map topology_y (picked_rows bs rs) ≡ map topology_y rs
+same_ys bs [] = refl
+same_ys bs (r ∷ rs) = ap (λ (l : List Float). r.y ∷ l) (same_ys (drop (length r.anchors) bs) rs)
 
-rows-ordered : (bs : List Bool) (rs : List TopologyRow) → T (all_of ordered_row rs) → T (all_of ordered_row (picked_rows bs rs))
-rows-ordered bs [] h = tt
-rows-ordered bs (r ∷ rs) h =
+rows_ordered : (bs : List Bool) (rs : List TopologyRow) → T (all_of ordered_row rs) → T (all_of ordered_row (picked_rows bs rs))
+rows_ordered bs [] h = tt
+rows_ordered bs (r ∷ rs) h =
     let e = and_yes (ordered_row r) (all_of ordered_row rs) h in
     yes_and (ordered (map anchor_x (picked bs r.anchors))) (all_of ordered_row (picked_rows (drop (length r.anchors) bs) rs))
-    (rw (map-picked anchor_x bs r.anchors) (ordered-picked bs (map anchor_x r.anchors) e.0))
-    (rows-ordered (drop (length r.anchors) bs) rs e.1)
+    (rw (map_picked anchor_x bs r.anchors) (ordered_picked bs (map anchor_x r.anchors) e.0))
+    (rows_ordered (drop (length r.anchors) bs) rs e.1)
 
-layer-ordered : (bs : List Bool) (l : TopologyLayer) → T (ordered_layer l) → T (ordered_layer (without_empty_rows (record { z = l.z; rows = picked_rows bs l.rows })))
-layer-ordered bs l h =
+layer_ordered : (bs : List Bool) (l : TopologyLayer) → T (ordered_layer l) → T (ordered_layer (without_empty_rows (record { z = l.z; rows = picked_rows bs l.rows })))
+layer_ordered bs l h =
     let e = and_yes (ordered (map topology_y l.rows)) (all_of ordered_row l.rows) h in
     let rs = picked_rows bs l.rows in
     yes_and (ordered (map topology_y (filtered has_anchors rs))) (all_of ordered_row (filtered has_anchors rs))
-    (ordered-filter has_anchors topology_y rs (rw (same-ys bs l.rows) e.0))
-    (all_filter has_anchors ordered_row rs (rows-ordered bs l.rows e.1))
+    (ordered_filter has_anchors topology_y rs (rw (same_ys bs l.rows) e.0))
+    (all_filter has_anchors ordered_row rs (rows_ordered bs l.rows e.1))
 
 -- ---- the layers
-same-zs : (bs : List Bool) (ls : List TopologyLayer) → map topology_z (map without_empty_rows (picked_layers bs ls)) ≡ map topology_z ls
-same-zs bs [] = refl
-same-zs bs (l ∷ ls) = ap (λ (t : List Float). l.z ∷ t) (same-zs (drop (anchor_number l.rows) bs) ls)
+same_zs : (bs : List Bool) (ls : List TopologyLayer) → map topology_z (map without_empty_rows (picked_layers bs ls)) ≡ map topology_z ls
+same_zs bs [] = refl
+same_zs bs (l ∷ ls) = ap (λ (t : List Float). l.z ∷ t) (same_zs (drop (anchor_number l.rows) bs) ls)
 
-layers-ordered : (bs : List Bool) (ls : List TopologyLayer) → T (all_of ordered_layer ls) → T (all_of ordered_layer (map without_empty_rows (picked_layers bs ls)))
-layers-ordered bs [] h = tt
-layers-ordered bs (l ∷ ls) h =
+layers_ordered_lem : (bs : List Bool) (ls : List TopologyLayer) → T (all_of ordered_layer ls) → T (all_of ordered_layer (map without_empty_rows (picked_layers bs ls)))
+layers_ordered_lem bs [] h = tt
+layers_ordered_lem bs (l ∷ ls) h =
     let e = and_yes (ordered_layer l) (all_of ordered_layer ls) h in
     yes_and (ordered_layer (without_empty_rows (record { z = l.z; rows = picked_rows bs l.rows }))) (all_of ordered_layer (map without_empty_rows (picked_layers (drop (anchor_number l.rows) bs) ls)))
-    (layer-ordered bs l e.0) (layers-ordered (drop (anchor_number l.rows) bs) ls e.1)
+    (layer_ordered bs l e.0) (layers_ordered_lem (drop (anchor_number l.rows) bs) ls e.1)
 
 module _ (bs : List Bool) (ls : List TopologyLayer) where
-  pub kept-ordered : T (ordered (map topology_z ls)) → T (ordered (map topology_z (kept_topology bs ls)))
-  kept-ordered h = ordered-filter has_rows topology_z (map without_empty_rows (picked_layers bs ls)) (rw (same-zs bs ls) h)
+  pub kept_ordered : T (ordered (map topology_z ls)) → T (ordered (map topology_z (kept_topology bs ls)))
+  kept_ordered h = ordered_filter has_rows topology_z (map without_empty_rows (picked_layers bs ls)) (rw (same_zs bs ls) h)
 
-  pub kept-layers : T (all_of ordered_layer ls) → T (all_of ordered_layer (kept_topology bs ls))
-  kept-layers h = all_filter has_rows ordered_layer (map without_empty_rows (picked_layers bs ls)) (layers-ordered bs ls h)
+  pub kept_layers : T (all_of ordered_layer ls) → T (all_of ordered_layer (kept_topology bs ls))
+  kept_layers h = all_filter has_rows ordered_layer (map without_empty_rows (picked_layers bs ls)) (layers_ordered_lem bs ls h)

@@ -13,7 +13,7 @@ use Rattle.layout.specs.Room.{Room, rows_in, anchors_in}
 use Rattle.layout.specs.Topology.{TopologyRow, TopologyLayer, anchor_name, anchor_x}
 use Rattle.layout.specs.Questions.{topology_y, topology_z}
 use Rattle.keys.specs.Keys.{filled_to, flag_number, pattern, rows_of_layer, anchors_of_row, key_numbers}
-use Rattle.keys.proofs.KeyWhole.{paste-part, length-filled, eight-joined}
+use Rattle.keys.proofs.KeyWhole.{paste_part, length_filled, eight_joined}
 use Rattle.kept_anchors.specs.Steps.Kept.{parts_over}
 
 -- ---- a part that is zeros from n on, written anew up to n
@@ -26,23 +26,23 @@ refilled : (m n : ℕ) (us vs : List ℕ) → length vs ≡ n → n ≤ m → le
 refilled m n us vs e h k =
     let z : List ℕ = replicate n 0 in
     let rest : List ℕ = drop n (replicate m 0) in
-    ap₂ (λ (s t : List ℕ). s ++ t) (take_all n (filled_to n us) (omega (arith, length-filled n us k))) (drop_at vs _ n e ∙ ap (λ (i : ℕ). drop i (replicate m 0)) e)
+    ap₂ (λ (s t : List ℕ). s ++ t) (take_all n (filled_to n us) (omega (arith, length_filled n us k))) (drop_at vs _ n e ∙ ap (λ (i : ℕ). drop i (replicate m 0)) e)
     ∙ append_assoc us (drop (length us) z) rest
     ∙ ap (λ (t : List ℕ). us ++ t) (sym (drop-append-le (length us) z rest (omega (arith, length-replicate {A = ℕ} n 0))) ∙ ap (drop (length us)) (zeros n m h))
 
-part-refilled : (m n : ℕ) (us vs : List ℕ) (ps : List (List ℕ)) (i at : ℕ) → length vs ≡ n → n ≤ m → length us ≤ n → i < length ps → at ≡ total (map length (take i ps)) → get_or ps i [] ≡ filled_to m vs → paste (flatten ps) at (filled_to n us) n ≡ flatten (set ps i (filled_to m us))
-part-refilled m n us vs ps i at e h k r q z =
-    paste-part ps i at (filled_to n us) n r q (omega (arith, ap length z, length-filled m vs (omega arith)))
+part_refilled : (m n : ℕ) (us vs : List ℕ) (ps : List (List ℕ)) (i at : ℕ) → length vs ≡ n → n ≤ m → length us ≤ n → i < length ps → at ≡ total (map length (take i ps)) → get_or ps i [] ≡ filled_to m vs → paste (flatten ps) at (filled_to n us) n ≡ flatten (set ps i (filled_to m us))
+part_refilled m n us vs ps i at e h k r q z =
+    paste_part ps i at (filled_to n us) n r q (omega (arith, ap length z, length_filled m vs (omega arith)))
     ∙ ap (λ (p : List ℕ). flatten (set ps i p)) (ap (λ (p : List ℕ). take n (filled_to n us) ++ drop n p) z ∙ refilled m n us vs e h k)
 
 -- two parts with the numbers of one list, in the place of those of another that is no shorter
 module _ {A : Type 0} (f g : A → ℕ) (new old : List A) (k : length new ≤ length old) (a b : ℕ) where
-  over-parts : (m : ℕ) (ps : List (List ℕ)) (i j : ℕ) → length old ≤ m → i < length ps → a ≡ total (map length (take i ps)) → get_or ps i [] ≡ filled_to m (map f old) → j < length (set ps i (filled_to m (map f new))) → b ≡ total (map length (take j (set ps i (filled_to m (map f new))))) → get_or (set ps i (filled_to m (map f new))) j [] ≡ filled_to m (map g old) →
+  over_parts : (m : ℕ) (ps : List (List ℕ)) (i j : ℕ) → length old ≤ m → i < length ps → a ≡ total (map length (take i ps)) → get_or ps i [] ≡ filled_to m (map f old) → j < length (set ps i (filled_to m (map f new))) → b ≡ total (map length (take j (set ps i (filled_to m (map f new))))) → get_or (set ps i (filled_to m (map f new))) j [] ≡ filled_to m (map g old) →
       parts_over a b (length old) (map f new) (map g new) (flatten ps) ≡ flatten (set (set ps i (filled_to m (map f new))) j (filled_to m (map g new)))
-  over-parts m ps i j h r q z u v w =
+  over_parts m ps i j h r q z u v w =
       let n = length old in
-      ap (λ (p : List ℕ). paste p b (filled_to n (map g new)) n) (part-refilled m n (map f new) (map f old) ps i a (length-map old f) h (omega (arith, length-map new f)) r q z)
-      ∙ part-refilled m n (map g new) (map g old) (set ps i (filled_to m (map f new))) j b (length-map old g) h (omega (arith, length-map new g)) u v w
+      ap (λ (p : List ℕ). paste p b (filled_to n (map g new)) n) (part_refilled m n (map f new) (map f old) ps i a (length-map old f) h (omega (arith, length-map new f)) r q z)
+      ∙ part_refilled m n (map g new) (map g old) (set ps i (filled_to m (map f new))) j b (length-map old g) h (omega (arith, length-map new g)) u v w
 
 -- ---- rooms
 abbrev pub z_pat : TopologyLayer → ℕ
@@ -66,7 +66,7 @@ pub record Within (q r : Room) : Type 0 where
   pub same : q.channels ≡ r.channels
 
 filled : {A : Type 0} (f : A → ℕ) (v : List A) (m : ℕ) → length v ≤ m → length (filled_to m (map f v)) ≡ m
-filled f v m h = length-filled m (map f v) (omega (arith, length-map v f))
+filled f v m h = length_filled m (map f v) (omega (arith, length-map v f))
 
 module _ (q r : Room) (w : Within q r) (e : ℕ) where
   abbrev layers_over : List ℕ → List ℕ
@@ -106,8 +106,8 @@ module _ (q r : Room) (w : Within q r) (e : ℕ) where
   abbrev tail : List ℕ
   tail = length r.channels ∷ length r.layers ∷ e ∷ 0 ∷ []
 
-  topology-over : anchors_over (rows_over (layers_over (flatten (names ∷ flags ∷ C r ∷ R r ∷ N r ∷ Z r ∷ Y r ∷ X r ∷ tail ∷ [])))) ≡ flatten (names ∷ flags ∷ C q ∷ R q ∷ N q ∷ Z q ∷ Y q ∷ X q ∷ tail ∷ [])
-  topology-over =
+  topology_over : anchors_over (rows_over (layers_over (flatten (names ∷ flags ∷ C r ∷ R r ∷ N r ∷ Z r ∷ Y r ∷ X r ∷ tail ∷ [])))) ≡ flatten (names ∷ flags ∷ C q ∷ R q ∷ N q ∷ Z q ∷ Y q ∷ X q ∷ tail ∷ [])
+  topology_over =
       let n1 = filled channel_name r.channels 24 w.channels in
       let n2 = filled flag_number r.channels 24 w.channels in
       let c1 = filled rows_of_layer r.layers 4 w.layers in
@@ -121,10 +121,10 @@ module _ (q r : Room) (w : Within q r) (e : ℕ) where
       let y1 = filled y_pat (rows_in r) 24 w.rows in
       let y2 = filled y_pat (rows_in q) 24 (omega (arith, w.fewer_rows, w.rows)) in
       ap (λ (p : List ℕ). anchors_over (rows_over p))
-      (over-parts rows_of_layer z_pat q.layers r.layers w.fewer_layers 48 100 4 (names ∷ flags ∷ C r ∷ R r ∷ N r ∷ Z r ∷ Y r ∷ X r ∷ tail ∷ []) 2 5 w.layers (omega arith) (omega arith) refl (omega arith) (omega arith) refl)
+      (over_parts rows_of_layer z_pat q.layers r.layers w.fewer_layers 48 100 4 (names ∷ flags ∷ C r ∷ R r ∷ N r ∷ Z r ∷ Y r ∷ X r ∷ tail ∷ []) 2 5 w.layers (omega arith) (omega arith) refl (omega arith) (omega arith) refl)
       ∙ ap anchors_over
-      (over-parts anchors_of_row y_pat (rows_in q) (rows_in r) w.fewer_rows 52 104 24 (names ∷ flags ∷ C q ∷ R r ∷ N r ∷ Z q ∷ Y r ∷ X r ∷ tail ∷ []) 3 6 w.rows (omega arith) (omega arith) refl (omega arith) (omega arith) refl)
-      ∙ over-parts anchor_name x_pat (anchors_in q) (anchors_in r) w.fewer_anchors 76 128 24 (names ∷ flags ∷ C q ∷ R q ∷ N r ∷ Z q ∷ Y q ∷ X r ∷ tail ∷ []) 4 7 w.anchors (omega arith) (omega arith) refl (omega arith) (omega arith) refl
+      (over_parts anchors_of_row y_pat (rows_in q) (rows_in r) w.fewer_rows 52 104 24 (names ∷ flags ∷ C q ∷ R r ∷ N r ∷ Z q ∷ Y r ∷ X r ∷ tail ∷ []) 3 6 w.rows (omega arith) (omega arith) refl (omega arith) (omega arith) refl)
+      ∙ over_parts anchor_name x_pat (anchors_in q) (anchors_in r) w.fewer_anchors 76 128 24 (names ∷ flags ∷ C q ∷ R q ∷ N r ∷ Z q ∷ Y q ∷ X r ∷ tail ∷ []) 4 7 w.anchors (omega arith) (omega arith) refl (omega arith) (omega arith) refl
 
   abbrev front : List ℕ
   front = names ++ flags ++ C q ++ R q ++ N q ++ Z q ++ Y q ++ X q
@@ -147,13 +147,13 @@ module _ (q r : Room) (w : Within q r) (e : ℕ) where
       let p7 = p6 ++ Y q in
       omega (arith, length-append names flags, length-append p2 (C q), length-append p3 (R q), length-append p4 (N q), length-append p5 (Z q), length-append p6 (Y q), length-append p7 (X q))
 
-  pub key-over : set (anchors_over (rows_over (layers_over (key_numbers r e)))) 153 (length q.layers) ≡ key_numbers q e
+  pub key_over : set (anchors_over (rows_over (layers_over (key_numbers r e)))) 153 (length q.layers) ≡ key_numbers q e
   unfolding key_numbers
-  key-over =
+  key_over =
       let n = length r.channels in
       let t : List ℕ = e ∷ 0 ∷ [] in
-      ap (λ (p : List ℕ). set (anchors_over (rows_over (layers_over p))) 153 (length q.layers)) (sym (eight-joined names flags (C r) (R r) (N r) (Z r) (Y r) (X r) tail))
-      ∙ ap (λ (p : List ℕ). set p 153 (length q.layers)) (topology-over ∙ eight-joined names flags (C q) (R q) (N q) (Z q) (Y q) (X q) tail ∙ sym (append_assoc front (n ∷ []) (length r.layers ∷ t)))
+      ap (λ (p : List ℕ). set (anchors_over (rows_over (layers_over p))) 153 (length q.layers)) (sym (eight_joined names flags (C r) (R r) (N r) (Z r) (Y r) (X r) tail))
+      ∙ ap (λ (p : List ℕ). set p 153 (length q.layers)) (topology_over ∙ eight_joined names flags (C q) (R q) (N q) (Z q) (Y q) (X q) tail ∙ sym (append_assoc front (n ∷ []) (length r.layers ∷ t)))
       ∙ set_at (front ++ (n ∷ [])) (length r.layers) t (length q.layers) 153 (length-append front (n ∷ []) ∙ omega (arith, front_long))
       ∙ append_assoc front (n ∷ []) (length q.layers ∷ t)
       ∙ ap (λ (v : List Channel). filled_to 24 (map channel_name v) ++ filled_to 24 (map flag_number v) ++ C q ++ R q ++ N q ++ Z q ++ Y q ++ X q ++ (length v ∷ length q.layers ∷ t)) (sym w.same)

@@ -37,8 +37,8 @@ module _ (keys : List ℕ) (r : Ring) (store : List Float) (key : List ℕ) (mea
 
   module _ (n : ℕ) (z : Bool) (en : n ≡ active_in (room_in key)) (ez : z ≡ ltb 1 (length (room_in key).layers)) where
     -- ---- over a place as it is
-    pub accepted-leaves : (word : Word) (p : ℕ) (s : Reply) (gains' : List Float) → s ≡ record { outcome = Gains n word; ring = r } → gains' ≡ by store p n z → Leaves (accepted_with word W F p) s keys store gains'
-    accepted-leaves word p s gains' e g = (e ∙ ap (λ (m : ℕ). record { outcome = Gains m word; ring = r }) en, (refl, (refl, g ∙ ap₂ (by store p) en ez)))
+    pub accepted_leaves : (word : Word) (p : ℕ) (s : Reply) (gains' : List Float) → s ≡ record { outcome = Gains n word; ring = r } → gains' ≡ by store p n z → Leaves (accepted_with word W F p) s keys store gains'
+    accepted_leaves word p s gains' e g = (e ∙ ap (λ (m : ℕ). record { outcome = Gains m word; ring = r }) en, (refl, (refl, g ∙ ap₂ (by store p) en ez)))
 
     -- ---- a new field
     abbrev place : ℕ
@@ -47,8 +47,8 @@ module _ (keys : List ℕ) (r : Ring) (store : List Float) (key : List ℕ) (mea
     fills : first_no (layout_questions (layout_in key)) ≡ 0 → 285312 ≤ length store → fillable key place store ≡ true
     fills y big = rw (eq-eqb (first_no (layout_questions (layout_in key))) 0 y, le-leb 285312 (length store) big, lt-ltb place 8 (omega arith))
 
-    pub built-leaves : first_no (layout_questions (layout_in key)) ≡ 0 → 285312 ≤ length store → (at : ℕ) (ring : Ring) (s : Reply) (keys' : List ℕ) (store' gains' : List Float) → at ≡ place → ring ≡ ring_after r → s ≡ record { outcome = Gains n Built; ring = ring } → keys' ≡ cond (ltb at 8) (with_key keys at key) keys → store' ≡ cond (fillable key at store) (filled (room_in key) at store) store → gains' ≡ by store' at n z → Leaves (newly_built W F) s keys' store' gains'
-    built-leaves y big at ring s keys' store' gains' a t e k f g =
+    pub built_leaves : first_no (layout_questions (layout_in key)) ≡ 0 → 285312 ≤ length store → (at : ℕ) (ring : Ring) (s : Reply) (keys' : List ℕ) (store' gains' : List Float) → at ≡ place → ring ≡ ring_after r → s ≡ record { outcome = Gains n Built; ring = ring } → keys' ≡ cond (ltb at 8) (with_key keys at key) keys → store' ≡ cond (fillable key at store) (filled (room_in key) at store) store → gains' ≡ by store' at n z → Leaves (newly_built W F) s keys' store' gains'
+    built_leaves y big at ring s keys' store' gains' a t e k f g =
         let filled' : store' ≡ filled (room_in key) place store =
         f
         ∙ ap (λ (p : ℕ). cond (fillable key p store) (filled (room_in key) p store) store) a
@@ -64,31 +64,31 @@ module _ (keys : List ℕ) (r : Ring) (store : List Float) (key : List ℕ) (mea
 
   -- ---- by the slot of the key
   module _ (slot : Slot) (f : slot ≡ slot_of keys r key) (s : Reply) (keys' : List ℕ) (store' gains' : List Float) where
-    pub keyed-leaves : (t : Slot) → slot ≡ t → Leaves (keyed_by W F t) s keys' store' gains' → Leaves (keyed_of W F) s keys' store' gains'
-    keyed-leaves t e h = subst (λ (x : Slot). Leaves (keyed_by W F x) s keys' store' gains') (sym e ∙ f) h
+    pub keyed_leaves : (t : Slot) → slot ≡ t → Leaves (keyed_by W F t) s keys' store' gains' → Leaves (keyed_of W F) s keys' store' gains'
+    keyed_leaves t e h = subst (λ (x : Slot). Leaves (keyed_by W F x) s keys' store' gains') (sym e ∙ f) h
 
   -- ---- by questions 11 to 14, and the mean
   module _ (q : ℕ) (f : q ≡ first_no (later_questions W F)) where
-    pub later-refused : (q ≡ 0 → ⊥) → (s : Reply) → s ≡ record { outcome = Refused q; ring = r } → Leaves (later_answer W F) s keys store gains
+    pub later_refused : (q ≡ 0 → ⊥) → (s : Reply) → s ≡ record { outcome = Refused q; ring = r } → Leaves (later_answer W F) s keys store gains
     unfolding later_answer
-    later-refused n s e =
-        subst (λ (a : Answer). Leaves a s keys store gains) (sym (by-no (first_no (later_questions W F)) (λ z. n (f ∙ z))))
+    later_refused n s e =
+        subst (λ (a : Answer). Leaves a s keys store gains) (sym (by_no (first_no (later_questions W F)) (λ z. n (f ∙ z))))
         (e ∙ ap (λ (k : ℕ). record { outcome = Refused k; ring = r }) f ∙ sym (ap (λ (b : Bool). record { outcome = cond b (Gains 0 Unused) (Refused (first_no (later_questions W F))); ring = r }) (ne_eqb _ 0 (λ z. n (f ∙ z)))), (refl, (refl, refl)))
       where
-        by-no : (k : ℕ) → (k ≡ 0 → ⊥) → cond (eqb k 0) (served W F) (refused_by k gains F) ≡ refused_by k gains F
-        by-no k h = ap (λ (b : Bool). cond b (served W F) (refused_by k gains F)) (ne_eqb k 0 h)
+        by_no : (k : ℕ) → (k ≡ 0 → ⊥) → cond (eqb k 0) (served W F) (refused_by k gains F) ≡ refused_by k gains F
+        by_no k h = ap (λ (b : Bool). cond b (served W F) (refused_by k gains F)) (ne_eqb k 0 h)
 
     module _ (y : q ≡ 0) where
-      later-serves : later_answer W F ≡ served W F
+      later_serves : later_answer W F ≡ served W F
       unfolding later_answer
-      later-serves = ap (λ (b : Bool). cond b (served W F) (refused_by (first_no (later_questions W F)) gains F)) (eq-eqb _ 0 (sym f ∙ y))
+      later_serves = ap (λ (b : Bool). cond b (served W F) (refused_by (first_no (later_questions W F)) gains F)) (eq-eqb _ 0 (sym f ∙ y))
 
-      pub later-unused : mean ≡ 0 → (s : Reply) (gains' : List Float) → Leaves (accepted_with Unused W F 0) s keys store gains' → Leaves (later_answer W F) s keys store gains'
+      pub later_unused : mean ≡ 0 → (s : Reply) (gains' : List Float) → Leaves (accepted_with Unused W F 0) s keys store gains' → Leaves (later_answer W F) s keys store gains'
       unfolding served
-      later-unused m s gains' h =
-          subst (λ (a : Answer). Leaves a s keys store gains') (sym (later-serves ∙ ap (λ (b : Bool). cond b (accepted_with Unused W F 0) (keyed_of W F)) (eq-eqb mean 0 m))) h
+      later_unused m s gains' h =
+          subst (λ (a : Answer). Leaves a s keys store gains') (sym (later_serves ∙ ap (λ (b : Bool). cond b (accepted_with Unused W F 0) (keyed_of W F)) (eq-eqb mean 0 m))) h
 
-      pub later-keyed : (mean ≡ 0 → ⊥) → (s : Reply) (keys' : List ℕ) (store' gains' : List Float) → Leaves (keyed_of W F) s keys' store' gains' → Leaves (later_answer W F) s keys' store' gains'
+      pub later_keyed : (mean ≡ 0 → ⊥) → (s : Reply) (keys' : List ℕ) (store' gains' : List Float) → Leaves (keyed_of W F) s keys' store' gains' → Leaves (later_answer W F) s keys' store' gains'
       unfolding served
-      later-keyed m s keys' store' gains' h =
-          subst (λ (a : Answer). Leaves a s keys' store' gains') (sym (later-serves ∙ ap (λ (b : Bool). cond b (accepted_with Unused W F 0) (keyed_of W F)) (ne_eqb mean 0 m))) h
+      later_keyed m s keys' store' gains' h =
+          subst (λ (a : Answer). Leaves a s keys' store' gains') (sym (later_serves ∙ ap (λ (b : Bool). cond b (accepted_with Unused W F 0) (keyed_of W F)) (ne_eqb mean 0 m))) h

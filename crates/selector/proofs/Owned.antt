@@ -16,17 +16,17 @@ use Rattle.layout.specs.contracts.Anchor as anchor
 use Rattle.layout.specs.contracts.Row as row
 use Rattle.layout.specs.contracts.Layer as layer
 
-pub zs-owned : (xs : List Layer) (us : List Val) → shadow (each layer.the_row.Denot layer.the_row.own_val xs us) → T (all_of (fits binary64) (map layer_z xs))
-zs-owned [] us s = tt
-zs-owned (x ∷ xs) [] s = absurd s
-zs-owned (x ∷ xs) (u ∷ us) s = yes_and (fits binary64 x.z) (all_of (fits binary64) (map layer_z xs)) (subst T (sym s.0.1.1.0.1) tt) (zs-owned xs us s.1)
+pub zs_owned : (xs : List Layer) (us : List Val) → shadow (each layer.the_row.Denot layer.the_row.own_val xs us) → T (all_of (fits binary64) (map layer_z xs))
+zs_owned [] us s = tt
+zs_owned (x ∷ xs) [] s = absurd s
+zs_owned (x ∷ xs) (u ∷ us) s = yes_and (fits binary64 x.z) (all_of (fits binary64) (map layer_z xs)) (subst T (sym s.0.1.1.0.1) tt) (zs_owned xs us s.1)
 
-pub ys-owned : (xs : List Row) (us : List Val) → shadow (each row.the_row.Denot row.the_row.own_val xs us) → T (all_of (fits binary64) (map row_y xs))
-ys-owned [] us s = tt
-ys-owned (x ∷ xs) [] s = absurd s
-ys-owned (x ∷ xs) (u ∷ us) s = yes_and (fits binary64 x.y) (all_of (fits binary64) (map row_y xs)) (subst T (sym s.0.1.1.0.1) tt) (ys-owned xs us s.1)
+pub ys_owned : (xs : List Row) (us : List Val) → shadow (each row.the_row.Denot row.the_row.own_val xs us) → T (all_of (fits binary64) (map row_y xs))
+ys_owned [] us s = tt
+ys_owned (x ∷ xs) [] s = absurd s
+ys_owned (x ∷ xs) (u ∷ us) s = yes_and (fits binary64 x.y) (all_of (fits binary64) (map row_y xs)) (subst T (sym s.0.1.1.0.1) tt) (ys_owned xs us s.1)
 
-pub xs-owned : (xs : List Anchor) (us : List Val) → shadow (each anchor.the_row.Denot anchor.the_row.own_val xs us) → T (all_of (fits binary64) (map anchor_x xs))
-xs-owned [] us s = tt
-xs-owned (x ∷ xs) [] s = absurd s
-xs-owned (x ∷ xs) (u ∷ us) s = yes_and (fits binary64 x.x) (all_of (fits binary64) (map anchor_x xs)) (subst T (sym s.0.1.1.1.0.1) tt) (xs-owned xs us s.1)
+pub xs_owned : (xs : List Anchor) (us : List Val) → shadow (each anchor.the_row.Denot anchor.the_row.own_val xs us) → T (all_of (fits binary64) (map anchor_x xs))
+xs_owned [] us s = tt
+xs_owned (x ∷ xs) [] s = absurd s
+xs_owned (x ∷ xs) (u ∷ us) s = yes_and (fits binary64 x.x) (all_of (fits binary64) (map anchor_x xs)) (subst T (sym s.0.1.1.1.0.1) tt) (xs_owned xs us s.1)

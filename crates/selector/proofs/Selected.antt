@@ -12,18 +12,18 @@ use Rattle.layout.specs.Questions.{Question, first_no, or_else, layout_questions
 use Rattle.layout.specs.Room.{Room, active_in}
 use Rattle.layout.specs.Topology.{TopologyLayer}
 use Rattle.layout.proofs.Sizes.{Sized}
-use Rattle.layout.proofs.SoundRoom.{SoundRoom, sound-room}
-use Rattle.layout.proofs.QuestionLists.{first-or, first-front, yes-first, layout-numbered, or-first}
+use Rattle.layout.proofs.SoundRoom.{SoundRoom, sound_room}
+use Rattle.layout.proofs.QuestionLists.{first_or_lem, first_front, yes_first, layout_numbered, or_first}
 use Rattle.extent.specs.Extent.{extent_questions, mean_of, mean_radius}
-use Rattle.extent.proofs.Readings.{extent-numbered}
+use Rattle.extent.proofs.Readings.{extent_numbered}
 use Rattle.region.specs.declared.RegionSemanticState.{RegionSemanticState}
 use Rattle.region.specs.Zones.{question8, is_default}
 use Rattle.selection.specs.Selection.{question9, question10}
-use Rattle.selection_laws.proofs.Selected.{nine-in-key, ten-in-key, selected-laid, selected-asked, selected-room-back, key-selected}
+use Rattle.selection_laws.proofs.Selected.{nine_in_key, ten_in_key, selected_laid, selected_asked, selected_room_back, key_selected}
 use Rattle.keys.specs.Keys.{key_numbers}
 use Rattle.keys.specs.Steps.{packed_numbers}
 use Rattle.keys.specs.InKey.{layout_in, room_in}
-use Rattle.keys.proofs.Asked.{asked-same}
+use Rattle.keys.proofs.Asked.{asked_same}
 use Rattle.keys.proofs.RoomBack.{back_room}
 use Rattle.cache.specs.declared.Word.TheVariants.{Unused}
 use Rattle.selector.specs.Call.{Call, Found, Answer, Wanted, Typed, state_by, lent_room, answered, zone_questions, selected_of, answer_of}
@@ -32,8 +32,8 @@ use Rattle.selector.specs.declared.Plan.{Plan}
 use Rattle.selector.specs.declared.Plan.TheVariants as plan
 use Rattle.selector.specs.declared.Reply.{Reply}
 use Rattle.selector.specs.Steps.{plan_of, planned_key, wanted_in, later_answer, Leaves}
-use Rattle.selector.proofs.Planned.{plan-first, plan_no, wide, refused-tells, wide-tells}
-use Rattle.selector.proofs.Whole.{before, call-refused, call-later, later-back}
+use Rattle.selector.proofs.Planned.{plan_first, plan_no, wide, refused_tells, wide_tells}
+use Rattle.selector.proofs.Whole.{before, call_refused, call_later, later_back}
 
 module _ (c : Call) (t : Typed c) where
   abbrev l : Layout
@@ -49,49 +49,49 @@ module _ (c : Call) (t : Typed c) where
   sized = record { channels = t.channels; layers = t.layers; rows = t.rows; anchors = t.anchors }
 
   -- the selected room of an accepted layout is sound
-  pub call-sound : first_no (layout_questions l) ≡ 0 → question9 state (lent_room c) ≡ true → SoundRoom (selected_of c)
-  call-sound none nine =
-      let p = selected-laid l sized t.zs t.ys t.xs state none nine in
-      subst SoundRoom p.room (sound-room p.layout p.sized p.yes p.zs p.ys p.xs)
+  pub call_sound : first_no (layout_questions l) ≡ 0 → question9 state (lent_room c) ≡ true → SoundRoom (selected_of c)
+  call_sound none nine =
+      let p = selected_laid l sized t.zs t.ys t.xs state none nine in
+      subst SoundRoom p.room (sound_room p.layout p.sized p.yes p.zs p.ys p.xs)
 
   module _ (f : Found) where
-    before-first : first_no (before c f) ≡ or_else (first_no (layout_questions l)) (or_else (first_no (extent_questions c.extent)) (first_no (zone_questions c.flags (lent_room c))))
-    before-first =
-        first-or (layout_questions l) (extent_questions c.extent ++ zone_questions c.flags (lent_room c)) (layout-numbered l)
-        ∙ ap (or_else (first_no (layout_questions l))) (first-or (extent_questions c.extent) (zone_questions c.flags (lent_room c)) (extent-numbered c.extent))
+    before_first : first_no (before c f) ≡ or_else (first_no (layout_questions l)) (or_else (first_no (extent_questions c.extent)) (first_no (zone_questions c.flags (lent_room c))))
+    before_first =
+        first_or_lem (layout_questions l) (extent_questions c.extent ++ zone_questions c.flags (lent_room c)) (layout_numbered l)
+        ∙ ap (or_else (first_no (layout_questions l))) (first_or_lem (extent_questions c.extent) (zone_questions c.flags (lent_room c)) (extent_numbered c.extent))
 
-    zones-same : first_no (layout_questions l) ≡ 0 → zone_questions c.flags (room_in packed) ≡ zone_questions c.flags (lent_room c)
+    zones_same : first_no (layout_questions l) ≡ 0 → zone_questions c.flags (room_in packed) ≡ zone_questions c.flags (lent_room c)
     unfolding zone_questions
-    zones-same none =
-        rw (nine-in-key l sized t.zs t.ys t.xs state none c.epoch, ten-in-key l sized t.zs t.ys t.xs state none c.epoch)
+    zones_same none =
+        rw (nine_in_key l sized t.zs t.ys t.xs state none c.epoch, ten_in_key l sized t.zs t.ys t.xs state none c.epoch)
 
     abbrev rest : Room → ℕ
     rest r = or_else (first_no (extent_questions c.extent)) (first_no (zone_questions c.flags r))
 
     -- the questions before question 11
-    pub plan-same : plan_no packed c.extent c.flags ≡ first_no (before c f)
-    plan-same =
-        plan-first packed c.extent c.flags
-        ∙ ap (λ (n : ℕ). or_else n (rest (room_in packed))) (asked-same l sized t.zs t.ys t.xs c.epoch)
+    pub plan_same : plan_no packed c.extent c.flags ≡ first_no (before c f)
+    plan_same =
+        plan_first packed c.extent c.flags
+        ∙ ap (λ (n : ℕ). or_else n (rest (room_in packed))) (asked_same l sized t.zs t.ys t.xs c.epoch)
         ∙ go (eqb (first_no (layout_questions l)) 0) refl
-        ∙ sym before-first
+        ∙ sym before_first
       where
         go : (b : Bool) → eqb (first_no (layout_questions l)) 0 ≡ b → or_else (first_no (layout_questions l)) (rest (room_in packed)) ≡ or_else (first_no (layout_questions l)) (rest (lent_room c))
-        go true e = ap (λ (qs : List Question). or_else (first_no (layout_questions l)) (or_else (first_no (extent_questions c.extent)) (first_no qs))) (zones-same (eqb-true (first_no (layout_questions l)) 0 e))
+        go true e = ap (λ (qs : List Question). or_else (first_no (layout_questions l)) (or_else (first_no (extent_questions c.extent)) (first_no qs))) (zones_same (eqb-true (first_no (layout_questions l)) 0 e))
         go false e =
             let n = first_no (layout_questions l) in
-            or-first n (rest (room_in packed)) (eqb-false n 0 e) ∙ sym (or-first n (rest (lent_room c)) (eqb-false n 0 e))
+            or_first n (rest (room_in packed)) (eqb-false n 0 e) ∙ sym (or_first n (rest (lent_room c)) (eqb-false n 0 e))
 
     -- ---- where they have no no
     module _ (z : first_no (before c f) ≡ 0) where
       asked : (first_no (layout_questions l) ≡ 0) × (question9 state (lent_room c) ≡ true) × (question10 state (lent_room c) ≡ true)
       unfolding zone_questions
       asked =
-          let s = first-front (layout_questions l) (extent_questions c.extent ++ zone_questions c.flags (lent_room c)) (layout-numbered l) z in
-          let x = first-front (extent_questions c.extent) (zone_questions c.flags (lent_room c)) (extent-numbered c.extent) s.1 in
-          let b = yes-first (question8 c.flags) _ 8 (omega arith) x.1 in
-          let d = yes-first (question9 state (lent_room c)) _ 9 (omega arith) b.1 in
-          let g = yes-first (question10 state (lent_room c)) _ 10 (omega arith) d.1 in
+          let s = first_front (layout_questions l) (extent_questions c.extent ++ zone_questions c.flags (lent_room c)) (layout_numbered l) z in
+          let x = first_front (extent_questions c.extent) (zone_questions c.flags (lent_room c)) (extent_numbered c.extent) s.1 in
+          let b = yes_first (question8 c.flags) _ 8 (omega arith) x.1 in
+          let d = yes_first (question9 state (lent_room c)) _ 9 (omega arith) b.1 in
+          let g = yes_first (question10 state (lent_room c)) _ 10 (omega arith) d.1 in
           (s.0, d.0, g.0)
 
       abbrev room : Room
@@ -100,18 +100,18 @@ module _ (c : Call) (t : Typed c) where
       abbrev key : List ℕ
       key = key_numbers room c.epoch
 
-      planned-is : planned_key packed c.extent c.flags ≡ key
-      planned-is =
+      planned_is : planned_key packed c.extent c.flags ≡ key
+      planned_is =
           let a = asked in
-          sym (wide packed c.extent c.flags (plan-same ∙ z)).1
-          ∙ key-selected l sized t.zs t.ys t.xs state a.0 a.1 c.epoch a.2
+          sym (wide packed c.extent c.flags (plan_same ∙ z)).1
+          ∙ key_selected l sized t.zs t.ys t.xs state a.0 a.1 c.epoch a.2
 
       -- the planned key is that of an accepted room
-      pub planned-yes : first_no (layout_questions (layout_in (planned_key packed c.extent c.flags))) ≡ 0
-      planned-yes =
+      pub planned_yes : first_no (layout_questions (layout_in (planned_key packed c.extent c.flags))) ≡ 0
+      planned_yes =
           let a = asked in
-          ap (λ (k : List ℕ). first_no (layout_questions (layout_in k))) planned-is
-          ∙ selected-asked l sized t.zs t.ys t.xs state a.0 a.1 c.epoch
+          ap (λ (k : List ℕ). first_no (layout_questions (layout_in k))) planned_is
+          ∙ selected_asked l sized t.zs t.ys t.xs state a.0 a.1 c.epoch
 
       channels : active_in room ≡ answered c
       channels = go (is_default state) _
@@ -121,44 +121,44 @@ module _ (c : Call) (t : Typed c) where
           go false ys = refl
 
       -- and what is wanted of it is what the call wants
-      pub planned-answer : later_answer (wanted_in (planned_key packed c.extent c.flags) (mean_of c.extent) (mean_radius (mean_of c.extent)) c.centre c.points c.gains) f ≡ answer_of c f
-      planned-answer =
+      pub planned_answer : later_answer (wanted_in (planned_key packed c.extent c.flags) (mean_of c.extent) (mean_radius (mean_of c.extent)) c.centre c.points c.gains) f ≡ answer_of c f
+      planned_answer =
           let a = asked in
           let of : Room → ℕ → Wanted = λ (r : Room) (n : ℕ). record { room = r; key = key; n = n; mean = mean_of c.extent; radius = mean_radius (mean_of c.extent); centre = c.centre; points = c.points; gains = c.gains } in
-          let back = selected-room-back l sized t.zs t.ys t.xs state a.0 a.1 c.epoch in
-          ap (λ (k : List ℕ). later_answer (wanted_in k (mean_of c.extent) (mean_radius (mean_of c.extent)) c.centre c.points c.gains) f) planned-is
+          let back = selected_room_back l sized t.zs t.ys t.xs state a.0 a.1 c.epoch in
+          ap (λ (k : List ℕ). later_answer (wanted_in k (mean_of c.extent) (mean_radius (mean_of c.extent)) c.centre c.points c.gains) f) planned_is
           ∙ ap (λ (w : Wanted). later_answer w f) (ap (λ (r : Room). of r (active_in r)) back ∙ ap (of (back_room room)) channels)
-          ∙ later-back room (call-sound a.0 a.1) key (answered c) (mean_of c.extent) (mean_radius (mean_of c.extent)) c.centre c.points c.gains f
-          ∙ sym (call-later c f z)
+          ∙ later_back room (call_sound a.0 a.1) key (answered c) (mean_of c.extent) (mean_radius (mean_of c.extent)) c.centre c.points c.gains f
+          ∙ sym (call_later c f z)
 
     -- ---- by the plan of the key that was packed
     module _ (key : List ℕ) (k : key ≡ packed) (p : Plan) (pl : p ≡ plan_of key c.extent c.flags) where
       told : p ≡ plan_of packed c.extent c.flags
       told = pl ∙ ap (λ (x : List ℕ). plan_of x c.extent c.flags) k
 
-      pub plan-refuses : (q : ℕ) (s : Reply) → p ≡ plan.Refused q → s ≡ record { outcome = Refused q; ring = f.ring } → Leaves (answer_of c f) s f.keys f.store c.gains
-      plan-refuses q s e r =
-          let w = refused-tells packed c.extent c.flags q (sym told ∙ e) in
-          let n : first_no (before c f) ≡ 0 → ⊥ = λ z. w.1 (plan-same ∙ z) in
-          let is : q ≡ first_no (before c f) = w.0 ∙ plan-same in
-          subst (λ (a : Answer). Leaves a s f.keys f.store c.gains) (sym (call-refused c f n))
+      pub plan_refuses : (q : ℕ) (s : Reply) → p ≡ plan.Refused q → s ≡ record { outcome = Refused q; ring = f.ring } → Leaves (answer_of c f) s f.keys f.store c.gains
+      plan_refuses q s e r =
+          let w = refused_tells packed c.extent c.flags q (sym told ∙ e) in
+          let n : first_no (before c f) ≡ 0 → ⊥ = λ z. w.1 (plan_same ∙ z) in
+          let is : q ≡ first_no (before c f) = w.0 ∙ plan_same in
+          subst (λ (a : Answer). Leaves a s f.keys f.store c.gains) (sym (call_refused c f n))
           (r ∙ ap (λ (i : ℕ). record { outcome = Refused i; ring = f.ring }) is ∙ sym (ap (λ (b : Bool). record { outcome = cond b (Gains 0 Unused) (Refused (first_no (before c f))); ring = f.ring }) (ne_eqb _ 0 n)), (refl, (refl, refl)))
 
       module _ (mean : ℕ) (radius : Float) (e : p ≡ plan.Wide mean radius) (key' : List ℕ) (k' : key' ≡ planned_key key c.extent c.flags) where
         none : first_no (before c f) ≡ 0
-        none = sym plan-same ∙ (wide-tells packed c.extent c.flags mean radius (sym told ∙ e)).0
+        none = sym plan_same ∙ (wide_tells packed c.extent c.flags mean radius (sym told ∙ e)).0
 
         left : key' ≡ planned_key packed c.extent c.flags
         left = k' ∙ ap (λ (x : List ℕ). planned_key x c.extent c.flags) k
 
-        pub plan-yes : first_no (layout_questions (layout_in key')) ≡ 0
-        plan-yes = ap (λ (x : List ℕ). first_no (layout_questions (layout_in x))) left ∙ planned-yes none
+        pub plan_yes : first_no (layout_questions (layout_in key')) ≡ 0
+        plan_yes = ap (λ (x : List ℕ). first_no (layout_questions (layout_in x))) left ∙ planned_yes none
 
-        pub plan-serves : (s : Reply) (keys' : List ℕ) (store' gains' : List Float) → Leaves (later_answer (wanted_in key' mean radius c.centre c.points c.gains) f) s keys' store' gains' → Leaves (answer_of c f) s keys' store' gains'
-        plan-serves s keys' store' gains' h =
-            let w = wide-tells packed c.extent c.flags mean radius (sym told ∙ e) in
+        pub plan_serves : (s : Reply) (keys' : List ℕ) (store' gains' : List Float) → Leaves (later_answer (wanted_in key' mean radius c.centre c.points c.gains) f) s keys' store' gains' → Leaves (answer_of c f) s keys' store' gains'
+        plan_serves s keys' store' gains' h =
+            let w = wide_tells packed c.extent c.flags mean radius (sym told ∙ e) in
             let same : later_answer (wanted_in key' mean radius c.centre c.points c.gains) f ≡ answer_of c f =
             ap (λ (x : List ℕ). later_answer (wanted_in x mean radius c.centre c.points c.gains) f) left
             ∙ ap₂ (λ (m : ℕ) (r : Float). later_answer (wanted_in (planned_key packed c.extent c.flags) m r c.centre c.points c.gains) f) w.1 w.2
-            ∙ planned-answer none in
+            ∙ planned_answer none in
             subst (λ (a : Answer). Leaves a s keys' store' gains') same h

@@ -15,36 +15,36 @@ use Rattle.layout.specs.Same.{same_room}
 use Rattle.layout.proofs.SoundRoom.{SoundRoom}
 use Rattle.extent.specs.Extent.{mean_of}
 use Rattle.field.specs.Place.{filled_from, filled}
-use Rattle.field_laws.proofs.SamePlaces.{same-filled}
-use Rattle.field.proofs.Patching.{patched-length}
+use Rattle.field_laws.proofs.SamePlaces.{same_filled}
+use Rattle.field.proofs.Patching.{patched_length}
 use Rattle.keys.specs.Keys.{key_numbers}
-use Rattle.keys.proofs.SameKeys.{key-same, same_key_lem}
+use Rattle.keys.proofs.SameKeys.{key_same, same_key_lem}
 use Rattle.cache.specs.declared.Slot.{Slot}
 use Rattle.cache.specs.declared.Slot.TheVariants.{At, Missing}
 use Rattle.cache.specs.declared.Word.{Word}
 use Rattle.cache.specs.declared.Word.TheVariants.{Unused, Kept, Built}
 use Rattle.cache.specs.Places.{key_at, with_key, slot_of}
 use Rattle.cache.specs.Questions.{is_gain}
-use Rattle.cache.proofs.EightKeys.{find-place, find_none}
+use Rattle.cache.proofs.EightKeys.{find_place, find_none}
 use Rattle.selector.specs.Call.{Call, Found, Answer, Typed, answered, selected_of, wanted, gains_by, built, refused_by, accepted_with, keyed_by, keyed_of, served, answer_of}
-use Rattle.selector.proofs.Questions.{asked-alone, Said, said}
+use Rattle.selector.proofs.Questions.{asked_alone, Said, said}
 use Rattle.selector_law.specs.Rule.{Key, packed_key, same_key, call_key, KeptList, none, refusal_by, is_held, leaves, is_full, with_new, after_call, store_after, keys_after, word_of, fresh, Right}
-use Rattle.selector_law.proofs.Held.{no_key, Holds, fresh_holds, asks-14, holds-keys, grown-holds, turned-holds}
-use Rattle.selector_law.proofs.Serving.{yes, true_of, selected-sound, store-big, served-field, served-point, served-bounded, point-served-bounded}
+use Rattle.selector_law.proofs.Held.{no_key, Holds, fresh_holds, asks_14, holds_keys, grown_holds, turned_holds}
+use Rattle.selector_law.proofs.Serving.{yes, true_of, selected_sound, store_big, served_field, served_point, served_bounded, point_served_bounded}
 
 -- ---- a key among keys
-any-it : (p : Key → Bool) (ks : List Key) (i : ℕ) → i < length ks → p (get_or ks i no_key) ≡ true → any_of p ks ≡ true
-any-it p [] i h e = absurd (omega arith)
-any-it p (k ∷ ks) zero h e = ap (λ (b : Bool). b || any_of p ks) e
-any-it p (k ∷ ks) (suc i) h e = ap (λ (b : Bool). p k || b) (any-it p ks i (omega arith) e) ∙ either (p k)
+any_it : (p : Key → Bool) (ks : List Key) (i : ℕ) → i < length ks → p (get_or ks i no_key) ≡ true → any_of p ks ≡ true
+any_it p [] i h e = absurd (omega arith)
+any_it p (k ∷ ks) zero h e = ap (λ (b : Bool). b || any_of p ks) e
+any_it p (k ∷ ks) (suc i) h e = ap (λ (b : Bool). p k || b) (any_it p ks i (omega arith) e) ∙ either (p k)
   where
     either : (b : Bool) → (b || true) ≡ true
     either true = refl
     either false = refl
 
-any-not : (p : Key → Bool) (ks : List Key) → ((i : ℕ) → i < length ks → p (get_or ks i no_key) ≡ true → ⊥) → any_of p ks ≡ false
-any-not p [] h = refl
-any-not p (k ∷ ks) h = go (p k) refl (any-not p ks (λ i l. h (suc i) (omega arith)))
+any_not : (p : Key → Bool) (ks : List Key) → ((i : ℕ) → i < length ks → p (get_or ks i no_key) ≡ true → ⊥) → any_of p ks ≡ false
+any_not p [] h = refl
+any_not p (k ∷ ks) h = go (p k) refl (any_not p ks (λ i l. h (suc i) (omega arith)))
   where
     go : (b : Bool) → p k ≡ b → any_of p ks ≡ false → (b || any_of p ks) ≡ false
     go true e r = absurd (h 0 (omega arith) e)
@@ -60,18 +60,18 @@ pub record Step (k : KeptList) (f : Found) (c : Call) (a : Answer) : Type 0 wher
   pub holds : Holds (after_call (length f.store) k c) a.found
 
 -- a place that is filled leaves the store as long as it was
-filled-length : (r : Room) (p : ℕ) (store : List Float) → length (filled r p store) ≡ length store
+filled_length : (r : Room) (p : ℕ) (store : List Float) → length (filled r p store) ≡ length store
 unfolding filled filled_from
-filled-length r p store = patched-length _ _ store
+filled_length r p store = patched_length _ _ store
 
 module _ (c : Call) (t : Typed c) where
   -- what the rule leaves of a store is as long
-  size-after : (k : KeptList) (s : List Float) → length (store_after (length s) k c s) ≡ length s
-  size-after k s = go (leaves (length s) k c)
+  size_after : (k : KeptList) (s : List Float) → length (store_after (length s) k c s) ≡ length s
+  size_after k s = go (leaves (length s) k c)
     where
       go : (b : Bool) → length (cond b s (filled (selected_of c) ((k.oldest + length k.keys) % 8) s)) ≡ length s
       go true = refl
-      go false = filled-length (selected_of c) ((k.oldest + length k.keys) % 8) s
+      go false = filled_length (selected_of c) ((k.oldest + length k.keys) % 8) s
 
   -- ---- accepted: by mean 0, by a key that is held, or by a new one
   module _ (k : KeptList) (w : List ℕ) (s : List Float) (h : Holds k (found_of k w s)) (q : Said c (length s)) where
@@ -88,10 +88,10 @@ module _ (c : Call) (t : Typed c) where
     at = (k.oldest + length k.keys) % 8
 
     sound : SoundRoom sel
-    sound = selected-sound c t (length s) q
+    sound = selected_sound c t (length s) q
 
     big : 285312 ≤ length s
-    big = store-big c t (length s) q
+    big = store_big c t (length s) q
 
     -- a place whose numbers are the key's has a layout that is the same, and so its field
     record Found_at (i : ℕ) : Type 0 where
@@ -103,17 +103,17 @@ module _ (c : Call) (t : Typed c) where
     at_key i l e =
         let x = get_or k.keys i no_key in
         let z = h.places i l in
-        let m = key-same sel x.room sound z.sound c.epoch x.epoch (sym e ∙ z.numbers) in
+        let m = key_same sel x.room sound z.sound c.epoch x.epoch (sym e ∙ z.numbers) in
         record {
           within = l;
-          held = any-it (same_key (call_key c)) k.keys i l (ap₂ ◌&&◌ (true_of (same_room sel x.room) m.0) (eq-eqb c.epoch x.epoch m.1));
-          field = same-filled sel x.room sound z.sound m.0 ((k.oldest + i) % 8) s ∙ z.field;
+          held = any_it (same_key (call_key c)) k.keys i l (ap₂ ◌&&◌ (true_of (same_room sel x.room) m.0) (eq-eqb c.epoch x.epoch m.1));
+          field = same_filled sel x.room sound z.sound m.0 ((k.oldest + i) % 8) s ∙ z.field;
         }
 
     -- a key that is held has its numbers in a place
     no_key_lem : ((i : ℕ) → i < length k.keys → key_at w ((k.oldest + i) % 8) ≡ (wanted c).key → ⊥) → is_held k c ≡ false
     no_key_lem n =
-        any-not (same_key (call_key c)) k.keys
+        any_not (same_key (call_key c)) k.keys
         (λ i l e.
         let x = get_or k.keys i no_key in
         let z = h.places i l in
@@ -129,17 +129,17 @@ module _ (c : Call) (t : Typed c) where
         → (eqb (mean_of c.extent) 0 ≡ false → is_held k c ≡ false → P (accepted_with Built (wanted c) (built (wanted c) f) at))
         → P (served (wanted c) f)
     unfolding served
-    ways P unused kept new = by-mean (eqb (mean_of c.extent) 0) refl
+    ways P unused kept new = by_mean (eqb (mean_of c.extent) 0) refl
       where
-        by-slot : eqb (mean_of c.extent) 0 ≡ false → (t : Slot) → slot ≡ t → P (keyed_by (wanted c) f t)
-        by-slot m (At p) e =
-            let r = find-place w (wanted c).key k.oldest (length k.keys) h.few p e in
+        by_slot : eqb (mean_of c.extent) 0 ≡ false → (t : Slot) → slot ≡ t → P (keyed_by (wanted c) f t)
+        by_slot m (At p) e =
+            let r = find_place w (wanted c).key k.oldest (length k.keys) h.few p e in
             subst (λ (j : ℕ). P (accepted_with Kept (wanted c) f j)) (sym r.place) (kept r.index m (at_key r.index r.within (ap (key_at w) (sym r.place) ∙ r.same)))
-        by-slot m Missing e = new m (no_key_lem (find_none w (wanted c).key k.oldest (length k.keys) h.few e))
+        by_slot m Missing e = new m (no_key_lem (find_none w (wanted c).key k.oldest (length k.keys) h.few e))
 
-        by-mean : (b : Bool) → eqb (mean_of c.extent) 0 ≡ b → P (cond b (accepted_with Unused (wanted c) f 0) (keyed_of (wanted c) f))
-        by-mean true e = unused e
-        by-mean false e = by-slot e slot refl
+        by_mean : (b : Bool) → eqb (mean_of c.extent) 0 ≡ b → P (cond b (accepted_with Unused (wanted c) f 0) (keyed_of (wanted c) f))
+        by_mean true e = unused e
+        by_mean false e = by_slot e slot refl
 
     -- ---- the gains, by any store as long: the point gains, or those of the selected layout's field
     abbrev value_by : List Float → List Float
@@ -151,46 +151,46 @@ module _ (c : Call) (t : Typed c) where
       number : a.n ≡ answered c
       gains : (u : List Float) → length u ≡ length s → a.gains ≡ value_by u
 
-    by-point : eqb (mean_of c.extent) 0 ≡ true → (u : List Float) → length u ≡ length s → gains_by (wanted c) s 0 ≡ value_by u
-    by-point e u l =
+    by_point : eqb (mean_of c.extent) 0 ≡ true → (u : List Float) → length u ≡ length s → gains_by (wanted c) s 0 ≡ value_by u
+    by_point e u l =
         let low : 0 < 8 = omega arith in
-        served-point c t (length s) q (eqb-true (mean_of c.extent) 0 e) 0 0 s u low low big (omega (arith, big))
+        served_point c t (length s) q (eqb-true (mean_of c.extent) 0 e) 0 0 s u low low big (omega (arith, big))
         ∙ sym (ap (λ (b : Bool). cond b (gains_by (wanted c) u 0) (gains_by (wanted c) (filled sel 0 u) 0)) e)
 
     by_field : eqb (mean_of c.extent) 0 ≡ false → (r : ℕ) → r < 8 → (u : List Float) → length u ≡ length s → gains_by (wanted c) (filled sel r s) r ≡ value_by u
     by_field e r low u l =
-        served-field c t (length s) q r 0 s u low (omega arith) big (omega (arith, big))
+        served_field c t (length s) q r 0 s u low (omega arith) big (omega (arith, big))
         ∙ sym (ap (λ (b : Bool). cond b (gains_by (wanted c) u 0) (gains_by (wanted c) (filled sel 0 u) 0)) e)
 
-    by-kept : (i : ℕ) → eqb (mean_of c.extent) 0 ≡ false → Found_at i → (u : List Float) → length u ≡ length s → gains_by (wanted c) s ((k.oldest + i) % 8) ≡ value_by u
-    by-kept i e m u l = ap (λ (x : List Float). gains_by (wanted c) x ((k.oldest + i) % 8)) (sym m.field) ∙ by_field e ((k.oldest + i) % 8) (omega arith) u l
+    by_kept : (i : ℕ) → eqb (mean_of c.extent) 0 ≡ false → Found_at i → (u : List Float) → length u ≡ length s → gains_by (wanted c) s ((k.oldest + i) % 8) ≡ value_by u
+    by_kept i e m u l = ap (λ (x : List Float). gains_by (wanted c) x ((k.oldest + i) % 8)) (sym m.field) ∙ by_field e ((k.oldest + i) % 8) (omega arith) u l
 
     plain : Plain (served (wanted c) f)
     plain =
         ways Plain
-        (λ e. record { refusal = refl; number = refl; gains = by-point e })
-        (λ i e m. record { refusal = refl; number = refl; gains = by-kept i e m })
+        (λ e. record { refusal = refl; number = refl; gains = by_point e })
+        (λ i e m. record { refusal = refl; number = refl; gains = by_kept i e m })
         (λ e m. record { refusal = refl; number = refl; gains = by_field e at (omega arith) })
 
   -- ---- what a call answers
   module _ (k : KeptList) (w : List ℕ) (s : List Float) (h : Holds k (found_of k w s)) where
-    by-refusal : answer_of c (found_of k w s) ≡ cond (eqb (refusal_by (length s) c) 0) (served (wanted c) (found_of k w s)) (refused_by (refusal_by (length s) c) c.gains (found_of k w s))
+    by_refusal : answer_of c (found_of k w s) ≡ cond (eqb (refusal_by (length s) c) 0) (served (wanted c) (found_of k w s)) (refused_by (refusal_by (length s) c) c.gains (found_of k w s))
     unfolding answer_of
-    by-refusal =
+    by_refusal =
         ap (λ (n : ℕ). cond (eqb n 0) (served (wanted c) (found_of k w s)) (refused_by n c.gains (found_of k w s)))
-        (asked-alone c (found_of k w s) (asks-14 k (found_of k w s) h))
+        (asked_alone c (found_of k w s) (asks_14 k (found_of k w s) h))
 
-    if-accepted : refusal_by (length s) c ≡ 0 → answer_of c (found_of k w s) ≡ served (wanted c) (found_of k w s)
-    if-accepted z = by-refusal ∙ ap (λ (n : ℕ). cond (eqb n 0) (served (wanted c) (found_of k w s)) (refused_by n c.gains (found_of k w s))) z
+    if_accepted : refusal_by (length s) c ≡ 0 → answer_of c (found_of k w s) ≡ served (wanted c) (found_of k w s)
+    if_accepted z = by_refusal ∙ ap (λ (n : ℕ). cond (eqb n 0) (served (wanted c) (found_of k w s)) (refused_by n c.gains (found_of k w s))) z
 
-    if-refused : eqb (refusal_by (length s) c) 0 ≡ false → answer_of c (found_of k w s) ≡ refused_by (refusal_by (length s) c) c.gains (found_of k w s)
-    if-refused z = by-refusal ∙ ap (λ (b : Bool). cond b (served (wanted c) (found_of k w s)) (refused_by (refusal_by (length s) c) c.gains (found_of k w s))) z
+    if_refused : eqb (refusal_by (length s) c) 0 ≡ false → answer_of c (found_of k w s) ≡ refused_by (refusal_by (length s) c) c.gains (found_of k w s)
+    if_refused z = by_refusal ∙ ap (λ (b : Bool). cond b (served (wanted c) (found_of k w s)) (refused_by (refusal_by (length s) c) c.gains (found_of k w s))) z
 
   -- a fresh selector's answer
-  fresh-plain : (s u : List Float) → length u ≡ length s → refusal_by (length s) c ≡ 0 → ((answer_of c (fresh u)).refusal ≡ 0) × ((answer_of c (fresh u)).n ≡ answered c) × ((answer_of c (fresh u)).gains ≡ cond (eqb (mean_of c.extent) 0) (gains_by (wanted c) u 0) (gains_by (wanted c) (filled (selected_of c) 0 u) 0))
-  fresh-plain s u l z =
+  fresh_plain : (s u : List Float) → length u ≡ length s → refusal_by (length s) c ≡ 0 → ((answer_of c (fresh u)).refusal ≡ 0) × ((answer_of c (fresh u)).n ≡ answered c) × ((answer_of c (fresh u)).gains ≡ cond (eqb (mean_of c.extent) 0) (gains_by (wanted c) u 0) (gains_by (wanted c) (filled (selected_of c) 0 u) 0))
+  fresh_plain s u l z =
       let e : refusal_by (length u) c ≡ 0 = ap (λ (n : ℕ). refusal_by n c) l ∙ z in
-      let a = if-accepted none (fresh u).keys u (fresh_holds u) e in
+      let a = if_accepted none (fresh u).keys u (fresh_holds u) e in
       let r = plain none (fresh u).keys u (fresh_holds u) (said c (length u) e) in
       (ap (λ (x : Answer). x.refusal) a ∙ r.refusal, ap (λ (x : Answer). x.n) a ∙ r.number, ap (λ (x : Answer). x.gains) a ∙ r.gains u refl)
 
@@ -212,16 +212,16 @@ module _ (c : Call) (t : Typed c) where
           right = record {
             refused = sym z;
             unchanged = λ n. absurd (n z);
-            alone = λ u l. let p = fresh-plain s u l z in (sym p.0, sym p.1, v u l ∙ sym p.2);
+            alone = λ u l. let p = fresh_plain s u l z in (sym p.0, sym p.1, v u l ∙ sym p.2);
             number = λ n. refl;
             word = λ n. e;
             bounded = λ n. b;
             count = held.count;
             oldest = held.oldest;
-            held = holds-keys (after_call (length s) k c) g held;
+            held = holds_keys (after_call (length s) k c) g held;
             keys = ws;
             store = ss;
-            size = ap length ss ∙ size-after k s;
+            size = ap length ss ∙ size_after k s;
           };
           holds = held;
         }
@@ -231,55 +231,55 @@ module _ (c : Call) (t : Typed c) where
       stays_after : after_call (length s) k c ≡ k
       stays_after = ap (λ (b : Bool). cond b k (with_new k c)) y
 
-      stays-holds : Holds (after_call (length s) k c) (found_of k w s)
-      stays-holds = subst (λ (x : KeptList). Holds x (found_of k w s)) (sym stays_after) h
+      stays_holds : Holds (after_call (length s) k c) (found_of k w s)
+      stays_holds = subst (λ (x : KeptList). Holds x (found_of k w s)) (sym stays_after) h
 
-      stays-keys : w ≡ keys_after (length s) k c w
-      stays-keys = sym (ap (λ (b : Bool). cond b w new_keys) y)
+      stays_keys : w ≡ keys_after (length s) k c w
+      stays_keys = sym (ap (λ (b : Bool). cond b w new_keys) y)
 
-      stays-store : s ≡ store_after (length s) k c s
-      stays-store = sym (ap (λ (b : Bool). cond b s new_store) y)
+      stays_store : s ≡ store_after (length s) k c s
+      stays_store = sym (ap (λ (b : Bool). cond b s new_store) y)
 
     -- a new key
-    new-leaves : eqb (mean_of c.extent) 0 ≡ false → is_held k c ≡ false → leaves (length s) k c ≡ false
-    new-leaves e m = rw (z, e, m)
+    new_leaves : eqb (mean_of c.extent) 0 ≡ false → is_held k c ≡ false → leaves (length s) k c ≡ false
+    new_leaves e m = rw (z, e, m)
 
-    built-holds : SoundRoom (selected_of c) → Holds (with_new k c) (built (wanted c) (found_of k w s))
-    built-holds sound = go (ltb (length k.keys) 8) (is_full k) refl refl
+    built_holds : SoundRoom (selected_of c) → Holds (with_new k c) (built (wanted c) (found_of k w s))
+    built_holds sound = go (ltb (length k.keys) 8) (is_full k) refl refl
       where
         go : (a b : Bool) → ltb (length k.keys) 8 ≡ a → eqb (length k.keys) 8 ≡ b
             → Holds (cond b (record { keys = drop 1 k.keys ++ (call_key c ∷ []); oldest = (k.oldest + 1) % 8 }) (record { keys = k.keys ++ (call_key c ∷ []); oldest = k.oldest }))
             (record { keys = (built (wanted c) (found_of k w s)).keys; ring = record { count = cond a (length k.keys + 1) (length k.keys); oldest = cond a k.oldest ((k.oldest + 1) % 8) }; store = (built (wanted c) (found_of k w s)).store })
-        go true false e d = grown-holds k (found_of k w s) h (call_key c) sound (ltb-true (length k.keys) 8 e)
-        go false true e d = turned-holds k (found_of k w s) h (call_key c) sound (eqb-true (length k.keys) 8 d)
+        go true false e d = grown_holds k (found_of k w s) h (call_key c) sound (ltb-true (length k.keys) 8 e)
+        go false true e d = turned_holds k (found_of k w s) h (call_key c) sound (eqb-true (length k.keys) 8 d)
         go true true e d = absurd (omega (arith, ltb-true (length k.keys) 8 e, eqb-true (length k.keys) 8 d))
         go false false e d = absurd (eqb-false (length k.keys) 8 d (omega (arith, h.few, ltb-false (length k.keys) 8 e)))
 
-    pub accepted-step : Step k (found_of k w s) c (served (wanted c) (found_of k w s))
-    accepted-step =
+    pub accepted_step : Step k (found_of k w s) c (served (wanted c) (found_of k w s))
+    accepted_step =
         ways k w s h asked (Step k (found_of k w s) c)
         (λ e.
         let y : leaves (length s) k c ≡ true = rw (z, e) in
-        step_by Unused (found_of k w s) 0 (sym (ap (λ (b : Bool). cond b Unused (cond (is_held k c) Kept Built)) e)) (by-point k w s h asked e)
-        (point-served-bounded c t (length s) asked (eqb-true (mean_of c.extent) 0 e) 0 s (omega arith) (store-big c t (length s) asked)) (stays-holds y) (stays-keys y) (stays-store y))
+        step_by Unused (found_of k w s) 0 (sym (ap (λ (b : Bool). cond b Unused (cond (is_held k c) Kept Built)) e)) (by_point k w s h asked e)
+        (point_served_bounded c t (length s) asked (eqb-true (mean_of c.extent) 0 e) 0 s (omega arith) (store_big c t (length s) asked)) (stays_holds y) (stays_keys y) (stays_store y))
         (λ i e m.
         let y : leaves (length s) k c ≡ true = rw (z, e, m.held) in
         let j = (k.oldest + i) % 8 in
-        step_by Kept (found_of k w s) j (sym (ap₂ (λ (b d : Bool). cond b Unused (cond d Kept Built)) e m.held)) (by-kept k w s h asked i e m)
-        (subst (λ (u : List Float). all_of is_gain (take (answered c) (gains_by (wanted c) u j)) ≡ true) m.field (served-bounded c t (length s) asked j s (omega arith) (store-big c t (length s) asked)))
-        (stays-holds y) (stays-keys y) (stays-store y))
+        step_by Kept (found_of k w s) j (sym (ap₂ (λ (b d : Bool). cond b Unused (cond d Kept Built)) e m.held)) (by_kept k w s h asked i e m)
+        (subst (λ (u : List Float). all_of is_gain (take (answered c) (gains_by (wanted c) u j)) ≡ true) m.field (served_bounded c t (length s) asked j s (omega arith) (store_big c t (length s) asked)))
+        (stays_holds y) (stays_keys y) (stays_store y))
         (λ e m.
-        let y = new-leaves e m in
+        let y = new_leaves e m in
         let j = (k.oldest + length k.keys) % 8 in
         step_by Built (built (wanted c) (found_of k w s)) j (sym (ap₂ (λ (b d : Bool). cond b Unused (cond d Kept Built)) e m)) (by_field k w s h asked e j (omega arith))
-        (served-bounded c t (length s) asked j s (omega arith) (store-big c t (length s) asked))
-        (subst (λ (x : KeptList). Holds x (built (wanted c) (found_of k w s))) (sym (ap (λ (b : Bool). cond b k (with_new k c)) y)) (built-holds (selected-sound c t (length s) asked)))
+        (served_bounded c t (length s) asked j s (omega arith) (store_big c t (length s) asked))
+        (subst (λ (x : KeptList). Holds x (built (wanted c) (found_of k w s))) (sym (ap (λ (b : Bool). cond b k (with_new k c)) y)) (built_holds (selected_sound c t (length s) asked)))
         (sym (ap (λ (b : Bool). cond b w new_keys) y))
         (sym (ap (λ (b : Bool). cond b s new_store) y)))
 
   -- ---- refused
-  refused-step : (k : KeptList) (w : List ℕ) (s : List Float) → Holds k (found_of k w s) → eqb (refusal_by (length s) c) 0 ≡ false → Step k (found_of k w s) c (refused_by (refusal_by (length s) c) c.gains (found_of k w s))
-  refused-step k w s h z =
+  refused_step : (k : KeptList) (w : List ℕ) (s : List Float) → Holds k (found_of k w s) → eqb (refusal_by (length s) c) 0 ≡ false → Step k (found_of k w s) c (refused_by (refusal_by (length s) c) c.gains (found_of k w s))
+  refused_step k w s h z =
       let n = eqb-false (refusal_by (length s) c) 0 z in
       let y : leaves (length s) k c ≡ true = ap (λ (b : Bool). not b || eqb (mean_of c.extent) 0 || is_held k c) z in
       let stay : after_call (length s) k c ≡ k = ap (λ (b : Bool). cond b k (with_new k c)) y in
@@ -290,14 +290,14 @@ module _ (c : Call) (t : Typed c) where
           unchanged = λ m. (refl, refl);
           alone = λ u l.
               let r = ap (λ (i : ℕ). refusal_by i c) l in
-              let a = if-refused none (fresh u).keys u (fresh_holds u) (ap (λ (i : ℕ). eqb i 0) r ∙ z) in
+              let a = if_refused none (fresh u).keys u (fresh_holds u) (ap (λ (i : ℕ). eqb i 0) r ∙ z) in
               (sym (ap (λ (x : Answer). x.refusal) a ∙ r), sym (ap (λ (x : Answer). x.n) a), sym (ap (λ (x : Answer). x.gains) a));
           number = λ e. absurd (n e);
           word = λ e. absurd (n e);
           bounded = λ e. absurd (n e);
           count = held.count;
           oldest = held.oldest;
-          held = holds-keys (after_call (length s) k c) (found_of k w s) held;
+          held = holds_keys (after_call (length s) k c) (found_of k w s) held;
           keys = sym (ap (λ (b : Bool). cond b w (with_key w ((k.oldest + length k.keys) % 8) (packed_key (call_key c)))) y);
           store = sym (ap (λ (b : Bool). cond b s (filled (selected_of c) ((k.oldest + length k.keys) % 8) s)) y);
           size = refl;
@@ -312,8 +312,8 @@ module _ (c : Call) (t : Typed c) where
       go : (b : Bool) → eqb (refusal_by (length s) c) 0 ≡ b → Step k (found_of k w s) c (answer_of c (found_of k w s))
       go true e =
           let z = eqb-true (refusal_by (length s) c) 0 e in
-          subst (Step k (found_of k w s) c) (sym (if-accepted k w s h z)) (accepted-step k w s h z)
-      go false e = subst (Step k (found_of k w s) c) (sym (if-refused k w s h e)) (refused-step k w s h e)
+          subst (Step k (found_of k w s) c) (sym (if_accepted k w s h z)) (accepted_step k w s h z)
+      go false e = subst (Step k (found_of k w s) c) (sym (if_refused k w s h e)) (refused_step k w s h e)
 
   pub step : (k : KeptList) (f : Found) → Holds k f → Step k f c (answer_of c f)
   step k f h =

@@ -9,14 +9,14 @@ use lib.Ieee.{Float}
 use lib.ListN.{length, get_or, drop, length-append, length-drop}
 use Rattle.layout.proofs.SoundRoom.{SoundRoom}
 use Rattle.field.specs.Place.{filled}
-use Rattle.field_laws.proofs.Filling.{fill-twice, fill-other}
-use Rattle.keys.proofs.SameKeys.{key-length}
+use Rattle.field_laws.proofs.Filling.{fill_twice, fill_other}
+use Rattle.keys.proofs.SameKeys.{key_length}
 use Rattle.cache.specs.Places.{key_at, with_key}
 use Rattle.cache.specs.Questions.{question14}
-use Rattle.cache.proofs.EightKeys.{with-length, with-here, with-other}
+use Rattle.cache.proofs.EightKeys.{with_length, with_here, with_other}
 use Rattle.selector.specs.Call.{Found}
 use Rattle.selector_law.specs.Rule.{Key, packed_key, KeptList, held_keys, none, fresh}
-use Rattle.selector_law.proofs.Places.{grown, turned, listed-up}
+use Rattle.selector_law.proofs.Places.{grown, turned, listed_up}
 
 abbrev pub no_key : Key
 no_key = record { room = record { channels = []; layers = [] }; epoch = 0 }
@@ -41,13 +41,13 @@ fresh_holds store = record { size = refl; count = refl; few = omega arith; oldes
 
 module _ (k : KeptList) (f : Found) (h : Holds k f) where
   -- question 14 is a yes
-  pub asks-14 : question14 f.ring.count f.ring.oldest ≡ true
-  asks-14 = rw (h.count, h.oldest, le-leb (length k.keys) 8 h.few, lt-ltb k.oldest 8 h.low)
+  pub asks_14 : question14 f.ring.count f.ring.oldest ≡ true
+  asks_14 = rw (h.count, h.oldest, le-leb (length k.keys) 8 h.few, lt-ltb k.oldest 8 h.low)
 
   -- the numbers held are those of the keys
-  pub holds-keys : held_keys f ≡ map packed_key k.keys
-  holds-keys =
-      listed-up (λ (i : ℕ). key_at f.keys ((f.ring.oldest + i) % 8)) packed_key no_key k.keys f.ring.count (sym h.count) (omega (arith, h.count, h.few))
+  pub holds_keys : held_keys f ≡ map packed_key k.keys
+  holds_keys =
+      listed_up (λ (i : ℕ). key_at f.keys ((f.ring.oldest + i) % 8)) packed_key no_key k.keys f.ring.count (sym h.count) (omega (arith, h.count, h.few))
       (λ i l. ap (λ (o : ℕ). key_at f.keys ((o + i) % 8)) h.oldest ∙ (h.places i (omega (arith, h.count))).numbers)
 
 -- ---- one more key in its place
@@ -61,8 +61,8 @@ module _ (k : KeptList) (f : Found) (h : Holds k f) (x : Key) (s : SoundRoom x.r
   abbrev store : List Float
   store = filled x.room at f.store
 
-  key-long : length (packed_key x) ≡ 156
-  key-long = key-length x.room s x.epoch
+  key_long : length (packed_key x) ≡ 156
+  key_long = key_length x.room s x.epoch
 
   at_low : at < 8
   at_low = omega arith
@@ -70,25 +70,25 @@ module _ (k : KeptList) (f : Found) (h : Holds k f) (x : Key) (s : SoundRoom x.r
   here : Has keys store at x
   here =
       record {
-        numbers = with-here f.keys at (packed_key x) h.size at_low key-long;
-        field = fill-twice x.room at f.store;
+        numbers = with_here f.keys at (packed_key x) h.size at_low key_long;
+        field = fill_twice x.room at f.store;
         sound = s;
       }
 
   there : (q : ℕ) (y : Key) → q < 8 → (q ≡ at → ⊥) → Has f.keys f.store q y → Has keys store q y
   there q y l n p =
       record {
-        numbers = with-other f.keys at (packed_key x) h.size at_low key-long q (λ e. n (sym e)) ∙ p.numbers;
-        field = fill-other y.room x.room p.sound s q at f.store n p.field;
+        numbers = with_other f.keys at (packed_key x) h.size at_low key_long q (λ e. n (sym e)) ∙ p.numbers;
+        field = fill_other y.room x.room p.sound s q at f.store n p.field;
         sound = p.sound;
       }
 
   long : length keys ≡ 1248
-  long = with-length f.keys at (packed_key x) h.size at_low key-long
+  long = with_length f.keys at (packed_key x) h.size at_low key_long
 
   -- where there is room
-  pub grown-holds : length k.keys < 8 → Holds (record { keys = k.keys ++ (x ∷ []); oldest = k.oldest }) (record { keys = keys; ring = record { count = length k.keys + 1; oldest = k.oldest }; store = store })
-  grown-holds room =
+  pub grown_holds : length k.keys < 8 → Holds (record { keys = k.keys ++ (x ∷ []); oldest = k.oldest }) (record { keys = keys; ring = record { count = length k.keys + 1; oldest = k.oldest }; store = store })
+  grown_holds room =
       record {
         size = long;
         count = simp length-append (omega arith);
@@ -99,8 +99,8 @@ module _ (k : KeptList) (f : Found) (h : Holds k f) (x : Key) (s : SoundRoom x.r
       }
 
   -- where the oldest is dropped
-  pub turned-holds : length k.keys ≡ 8 → Holds (record { keys = drop 1 k.keys ++ (x ∷ []); oldest = (k.oldest + 1) % 8 }) (record { keys = keys; ring = record { count = length k.keys; oldest = (k.oldest + 1) % 8 }; store = store })
-  turned-holds full =
+  pub turned_holds : length k.keys ≡ 8 → Holds (record { keys = drop 1 k.keys ++ (x ∷ []); oldest = (k.oldest + 1) % 8 }) (record { keys = keys; ring = record { count = length k.keys; oldest = (k.oldest + 1) % 8 }; store = store })
+  turned_holds full =
       record {
         size = long;
         count = simp (length-append, length-drop) (omega arith);

@@ -8,11 +8,11 @@ use native.Mathlib.Omega.{arith}
 use lib.ListN.{length, get_or, drop, length-append, length-drop, length-map, length-take, get_or-append}
 use lib.Seq.{get_or_at, get_or-drop, get_or-take, ext_get_or}
 use Rattle.cache.specs.Places.{first_places}
-use Rattle.cache.proofs.KeyCompare.{eight-at}
+use Rattle.cache.proofs.KeyCompare.{eight_at}
 
 -- the seven places behind the oldest are not the one that a turn gives away
-not-given : (o i n : ℕ) → o < 8 → i < 7 → n ≡ 8 → (o + (1 + i)) % 8 ≡ (o + n) % 8 → ⊥
-not-given o i n h k full e =
+not_given : (o i n : ℕ) → o < 8 → i < 7 → n ≡ 8 → (o + (1 + i)) % 8 ≡ (o + n) % 8 → ⊥
+not_given o i n h k full e =
     let g : (o + (1 + i)) % 8 ≡ o = e ∙ ap (λ (m : ℕ). (o + m) % 8) full ∙ turn o h in
     omega (arith, g)
   where
@@ -42,28 +42,28 @@ module _ {K : Type 0} (none : K) (P N : ℕ → K → Type 0) (o : ℕ) (key : K
       let p : ((o + 1) % 8 + i) % 8 ≡ (o + (1 + i)) % 8 = omega arith in
       subst (λ (q : ℕ). N q (get_or (drop 1 ks ++ (key ∷ [])) i none)) (sym p)
       (subst (N ((o + (1 + i)) % 8)) (sym (get_or-drop 1 ks i none) ∙ sym (get_or-append (drop 1 ks) (key ∷ []) none i (omega arith)))
-      (there ((o + (1 + i)) % 8) (get_or ks (1 + i) none) (omega arith) (not-given o i (length ks) low j full) (held (1 + i) (omega arith)))))
+      (there ((o + (1 + i)) % 8) (get_or ks (1 + i) none) (omega arith) (not_given o i (length ks) low j full) (held (1 + i) (omega arith)))))
       (eq-or-lt_of_le (omega (arith, seven, simp length-append at l)))
 
 -- ---- the numbers up to n
-pub places-length : (n : ℕ) → n ≤ 8 → length (first_places n) ≡ n
-places-length n h = rw length-take (omega arith)
+pub places_length : (n : ℕ) → n ≤ 8 → length (first_places n) ≡ n
+places_length n h = rw length-take (omega arith)
 
 -- what is said of each number up to n
-pub listed-up : {A K : Type 0} (g : ℕ → A) (h : K → A) (none : K) (ks : List K) (n : ℕ) → length ks ≡ n → n ≤ 8 → ((i : ℕ) → i < n → g i ≡ h (get_or ks i none)) → map g (first_places n) ≡ map h ks
-listed-up g h none ks n e few same =
-    let m = places-length n few in
+pub listed_up : {A K : Type 0} (g : ℕ → A) (h : K → A) (none : K) (ks : List K) (n : ℕ) → length ks ≡ n → n ≤ 8 → ((i : ℕ) → i < n → g i ≡ h (get_or ks i none)) → map g (first_places n) ≡ map h ks
+listed_up g h none ks n e few same =
+    let m = places_length n few in
     let u = length-map (first_places n) g in
     let v = length-map ks h in
     ext_get_or (h none) (map g (first_places n)) (map h ks) (omega arith)
     (λ i l.
     let j : i < n = omega arith in
-    get_or-map-in g (first_places n) i 0 (h none) (omega arith)
-    ∙ ap g (get_or-take n (0 ∷ 1 ∷ 2 ∷ 3 ∷ 4 ∷ 5 ∷ 6 ∷ 7 ∷ []) i 0 j ∙ eight-at i (omega arith))
+    get_or_map_in g (first_places n) i 0 (h none) (omega arith)
+    ∙ ap g (get_or-take n (0 ∷ 1 ∷ 2 ∷ 3 ∷ 4 ∷ 5 ∷ 6 ∷ 7 ∷ []) i 0 j ∙ eight_at i (omega arith))
     ∙ same i j
-    ∙ sym (get_or-map-in h ks i none (h none) (omega arith)))
+    ∙ sym (get_or_map_in h ks i none (h none) (omega arith)))
   where
-    get_or-map-in : {X Y : Type 0} (f : X → Y) (xs : List X) (i : ℕ) (d : X) (y : Y) → i < length xs → get_or (map f xs) i y ≡ f (get_or xs i d)
-    get_or-map-in f [] i d y h = absurd (omega arith)
-    get_or-map-in f (x ∷ xs) zero d y h = refl
-    get_or-map-in f (x ∷ xs) (suc i) d y h = get_or-map-in f xs i d y (omega arith)
+    get_or_map_in : {X Y : Type 0} (f : X → Y) (xs : List X) (i : ℕ) (d : X) (y : Y) → i < length xs → get_or (map f xs) i y ≡ f (get_or xs i d)
+    get_or_map_in f [] i d y h = absurd (omega arith)
+    get_or_map_in f (x ∷ xs) zero d y h = refl
+    get_or_map_in f (x ∷ xs) (suc i) d y h = get_or_map_in f xs i d y (omega arith)

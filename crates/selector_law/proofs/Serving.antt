@@ -21,13 +21,13 @@ use Rattle.layout.proofs.SoundRoom.{SoundRoom}
 use Rattle.extent.specs.Extent.{mean_of, mean_radius}
 use Rattle.gains.specs.Gains.{projectable, projected}
 use Rattle.field.specs.Place.{filled}
-use Rattle.extent.proofs.Extents.{radius-fits}
-use Rattle.field_laws.proofs.PlaceGains.{filled-projected, filled-bounded, point-projected, point-bounded}
+use Rattle.extent.proofs.Extents.{radius_fits}
+use Rattle.field_laws.proofs.PlaceGains.{filled_projected, filled_bounded, point_projected, point_bounded}
 use Rattle.region.specs.Zones.{is_default}
 use Rattle.cache.specs.Questions.{is_gain, question12, question13}
 use Rattle.selector.specs.Call.{Call, Typed, state_by, lent_room, answered, selected_of, wanted, gains_by}
 use Rattle.selector.proofs.Questions.{Said}
-use Rattle.selector.proofs.Selected.{call-sound}
+use Rattle.selector.proofs.Selected.{call_sound}
 
 -- ---- gains as tests and as facts
 pub yes : (b : Bool) → b ≡ true → T b
@@ -41,104 +41,104 @@ quarters : dec 125 2 ≡ five_quarters
 unfolding round
 quarters = refl
 
-is-bounded : (g : Float) → is_gain g ≡ true → Bounded g
-is-bounded g e =
+is_bounded : (g : Float) → is_gain g ≡ true → Bounded g
+is_bounded g e =
     let t = yes (is_gain g) e in
     let b = and_r (finite g) (is_between zero64 (dec 125 2) g) t in
     (and_l (finite g) (is_between zero64 (dec 125 2) g) t, and_l (le zero64 g) (le g (dec 125 2)) b, subst (λ (q : Float). T (le g q)) quarters (and_r (le zero64 g) (le g (dec 125 2)) b))
 
-bounded-is : (g : Float) → Bounded g → is_gain g ≡ true
-bounded-is g b =
+bounded_is : (g : Float) → Bounded g → is_gain g ≡ true
+bounded_is g b =
     let u = true_of (le g (dec 125 2)) (subst (λ (q : Float). T (le g q)) (sym quarters) b.2) in
     rw (true_of (finite g) b.0, true_of (le zero64 g) b.1, u)
 
-all-at : (p : Float → Bool) (xs : List Float) (i : ℕ) → all_of p xs ≡ true → i < length xs → p (get_or xs i nan) ≡ true
-all-at p [] i e h = absurd (omega arith)
-all-at p (x ∷ xs) zero e h = true_of (p x) (and_l (p x) (all_of p xs) (yes (p x && all_of p xs) e))
-all-at p (x ∷ xs) (suc i) e h = all-at p xs i (true_of (all_of p xs) (and_r (p x) (all_of p xs) (yes (p x && all_of p xs) e))) (omega arith)
+all_at : (p : Float → Bool) (xs : List Float) (i : ℕ) → all_of p xs ≡ true → i < length xs → p (get_or xs i nan) ≡ true
+all_at p [] i e h = absurd (omega arith)
+all_at p (x ∷ xs) zero e h = true_of (p x) (and_l (p x) (all_of p xs) (yes (p x && all_of p xs) e))
+all_at p (x ∷ xs) (suc i) e h = all_at p xs i (true_of (all_of p xs) (and_r (p x) (all_of p xs) (yes (p x && all_of p xs) e))) (omega arith)
 
-all-by : (p : Float → Bool) (xs : List Float) → ((i : ℕ) → i < length xs → p (get_or xs i nan) ≡ true) → all_of p xs ≡ true
-all-by p [] h = refl
-all-by p (x ∷ xs) h = rw (h 0 (omega arith), all-by p xs (λ i l. h (suc i) (omega arith)))
+all_by : (p : Float → Bool) (xs : List Float) → ((i : ℕ) → i < length xs → p (get_or xs i nan) ≡ true) → all_of p xs ≡ true
+all_by p [] h = refl
+all_by p (x ∷ xs) h = rw (h 0 (omega arith), all_by p xs (λ i l. h (suc i) (omega arith)))
 
 -- ---- the selected room
 module _ (c : Call) (t : Typed c) (size : ℕ) (q : Said c size) where
-  pub selected-sound : SoundRoom (selected_of c)
-  selected-sound = call-sound c t q.layout q.yes9
+  pub selected_sound : SoundRoom (selected_of c)
+  selected_sound = call_sound c t q.layout q.yes9
 
-  selected-count : active_in (selected_of c) ≡ answered c
-  selected-count = go (is_default (state_by c.flags)) _
+  selected_count : active_in (selected_of c) ≡ answered c
+  selected_count = go (is_default (state_by c.flags)) _
     where
       go : (b : Bool) (ys : List TopologyLayer) → active_in (cond b (lent_room c) (record { channels = (lent_room c).channels; layers = ys })) ≡ answered c
       go true ys = refl
       go false ys = refl
 
-  pub store-big : 285312 ≤ size
-  store-big = leb-true 285312 size (true_of (leb 285312 size) (and_r (leb (answered c) (length c.gains)) (leb 285312 size) (yes (question13 (answered c) (length c.gains) size) q.yes13)))
+  pub store_big : 285312 ≤ size
+  store_big = leb-true 285312 size (true_of (leb 285312 size) (and_r (leb (answered c) (length c.gains)) (leb 285312 size) (yes (question13 (answered c) (length c.gains) size) q.yes13)))
 
   slots : answered c ≤ length c.gains
   slots = leb-true (answered c) (length c.gains) (true_of (leb (answered c) (length c.gains)) (and_l (leb (answered c) (length c.gains)) (leb 285312 size) (yes (question13 (answered c) (length c.gains) size) q.yes13)))
 
-  points-many : length c.points ≡ answered c
-  points-many = eqb-true (length c.points) (answered c) (true_of _ (and_l (eqb (length c.points) (answered c)) (all_of is_gain c.points) (yes (question12 (answered c) c.points) q.yes12)))
+  points_many : length c.points ≡ answered c
+  points_many = eqb-true (length c.points) (answered c) (true_of _ (and_l (eqb (length c.points) (answered c)) (all_of is_gain c.points) (yes (question12 (answered c) c.points) q.yes12)))
 
-  points-bounded : (i : ℕ) → i < answered c → Bounded (get_or c.points i nan)
-  points-bounded i h =
-      is-bounded (get_or c.points i nan)
-      (all-at is_gain c.points i (true_of _ (and_r (eqb (length c.points) (answered c)) (all_of is_gain c.points) (yes (question12 (answered c) c.points) q.yes12))) (omega (arith, points-many)))
+  points_bounded : (i : ℕ) → i < answered c → Bounded (get_or c.points i nan)
+  points_bounded i h =
+      is_bounded (get_or c.points i nan)
+      (all_at is_gain c.points i (true_of _ (and_r (eqb (length c.points) (answered c)) (all_of is_gain c.points) (yes (question12 (answered c) c.points) q.yes12))) (omega (arith, points_many)))
 
   few : answered c ≤ 24
-  few = omega (arith, selected-count, selected-sound.few_active)
+  few = omega (arith, selected_count, selected_sound.few_active)
 
   projects : (p : ℕ) (s : List Float) → p < 8 → 285312 ≤ length s → projectable (length s) p (answered c) (length c.points) (length c.gains) ≡ true
   projects p s h b =
-      rw (lt-ltb p 8 h, le-leb (answered c) 24 few, le-leb 285312 (length s) b, le-leb (answered c) (length c.points) (omega (arith, points-many)), le-leb (answered c) (length c.gains) slots)
+      rw (lt-ltb p 8 h, le-leb (answered c) 24 few, le-leb 285312 (length s) b, le-leb (answered c) (length c.points) (omega (arith, points_many)), le-leb (answered c) (length c.gains) slots)
 
   radius : T (fits binary64 (mean_radius (mean_of c.extent)))
-  radius = radius-fits _
+  radius = radius_fits _
 
   -- whichever place is filled, in whichever store
-  pub served-field : (p r : ℕ) (s u : List Float) → p < 8 → r < 8 → 285312 ≤ length s → 285312 ≤ length u → gains_by (wanted c) (filled (selected_of c) p s) p ≡ gains_by (wanted c) (filled (selected_of c) r u) r
-  served-field p r s u h k b d =
+  pub served_field : (p r : ℕ) (s u : List Float) → p < 8 → r < 8 → 285312 ≤ length s → 285312 ≤ length u → gains_by (wanted c) (filled (selected_of c) p s) p ≡ gains_by (wanted c) (filled (selected_of c) r u) r
+  served_field p r s u h k b d =
       subst
       (λ (n : ℕ). projected (filled (selected_of c) p s) p n (ltb 1 (length (selected_of c).layers)) (mean_of c.extent) (mean_radius (mean_of c.extent)) c.centre c.points c.gains
       ≡ projected (filled (selected_of c) r u) r n (ltb 1 (length (selected_of c).layers)) (mean_of c.extent) (mean_radius (mean_of c.extent)) c.centre c.points c.gains)
-      selected-count
-      (filled-projected (selected_of c) selected-sound (ltb 1 (length (selected_of c).layers)) refl p r s u h k b d (mean_of c.extent) (mean_radius (mean_of c.extent)) c.centre c.points c.gains t.centre radius)
+      selected_count
+      (filled_projected (selected_of c) selected_sound (ltb 1 (length (selected_of c).layers)) refl p r s u h k b d (mean_of c.extent) (mean_radius (mean_of c.extent)) c.centre c.points c.gains t.centre radius)
 
   -- mean 0
-  pub served-point : mean_of c.extent ≡ 0 → (p r : ℕ) (s u : List Float) → p < 8 → r < 8 → 285312 ≤ length s → 285312 ≤ length u → gains_by (wanted c) s p ≡ gains_by (wanted c) u r
-  served-point e p r s u h k b d =
+  pub served_point : mean_of c.extent ≡ 0 → (p r : ℕ) (s u : List Float) → p < 8 → r < 8 → 285312 ≤ length s → 285312 ≤ length u → gains_by (wanted c) s p ≡ gains_by (wanted c) u r
+  served_point e p r s u h k b d =
       subst
       (λ (m : ℕ). projected s p (answered c) (ltb 1 (length (selected_of c).layers)) m (mean_radius m) c.centre c.points c.gains
       ≡ projected u r (answered c) (ltb 1 (length (selected_of c).layers)) m (mean_radius m) c.centre c.points c.gains)
       (sym e)
-      (point-projected p r (answered c) s u (ltb 1 (length (selected_of c).layers)) (mean_radius 0) c.centre c.points c.gains h k b d)
+      (point_projected p r (answered c) s u (ltb 1 (length (selected_of c).layers)) (mean_radius 0) c.centre c.points c.gains h k b d)
 
   -- ---- the bound
-  gains-all : (gs : List Float) → ((i : ℕ) → i < answered c → Bounded (get_or gs i nan)) → all_of is_gain (take (answered c) gs) ≡ true
-  gains-all gs h =
-      all-by is_gain (take (answered c) gs)
+  gains_all : (gs : List Float) → ((i : ℕ) → i < answered c → Bounded (get_or gs i nan)) → all_of is_gain (take (answered c) gs) ≡ true
+  gains_all gs h =
+      all_by is_gain (take (answered c) gs)
       (λ i l.
       let j : i < answered c = omega (arith, simp length-take at l) in
-      ap is_gain (get_or-take (answered c) gs i nan j) ∙ bounded-is (get_or gs i nan) (h i j))
+      ap is_gain (get_or-take (answered c) gs i nan j) ∙ bounded_is (get_or gs i nan) (h i j))
 
-  pub served-bounded : (p : ℕ) (s : List Float) → p < 8 → 285312 ≤ length s → all_of is_gain (take (answered c) (gains_by (wanted c) (filled (selected_of c) p s) p)) ≡ true
-  served-bounded p s h b =
-      let z = selected-sound in
+  pub served_bounded : (p : ℕ) (s : List Float) → p < 8 → 285312 ≤ length s → all_of is_gain (take (answered c) (gains_by (wanted c) (filled (selected_of c) p s) p)) ≡ true
+  served_bounded p s h b =
+      let z = selected_sound in
       let l = selected_of c in
-      gains-all (gains_by (wanted c) (filled l p s) p)
+      gains_all (gains_by (wanted c) (filled l p s) p)
       (subst
       (λ (n : ℕ). (i : ℕ) → i < n → Bounded (get_or (projected (filled l p s) p n (ltb 1 (length l.layers)) (mean_of c.extent) (mean_radius (mean_of c.extent)) c.centre c.points c.gains) i nan))
-      selected-count
-      (filled-bounded l z (ltb 1 (length l.layers)) refl p s h b (mean_of c.extent) (mean_radius (mean_of c.extent)) c.centre c.points c.gains t.centre radius
-      (ap (λ (n : ℕ). projectable (length s) p n (length c.points) (length c.gains)) selected-count ∙ projects p s h b)
-      (λ i l. points-bounded i (omega (arith, selected-count)))))
+      selected_count
+      (filled_bounded l z (ltb 1 (length l.layers)) refl p s h b (mean_of c.extent) (mean_radius (mean_of c.extent)) c.centre c.points c.gains t.centre radius
+      (ap (λ (n : ℕ). projectable (length s) p n (length c.points) (length c.gains)) selected_count ∙ projects p s h b)
+      (λ i l. points_bounded i (omega (arith, selected_count)))))
 
-  pub point-served-bounded : mean_of c.extent ≡ 0 → (p : ℕ) (s : List Float) → p < 8 → 285312 ≤ length s → all_of is_gain (take (answered c) (gains_by (wanted c) s p)) ≡ true
-  point-served-bounded e p s h b =
-      gains-all (gains_by (wanted c) s p)
+  pub point_served_bounded : mean_of c.extent ≡ 0 → (p : ℕ) (s : List Float) → p < 8 → 285312 ≤ length s → all_of is_gain (take (answered c) (gains_by (wanted c) s p)) ≡ true
+  point_served_bounded e p s h b =
+      gains_all (gains_by (wanted c) s p)
       (subst
       (λ (m : ℕ). (i : ℕ) → i < answered c → Bounded (get_or (projected s p (answered c) (ltb 1 (length (selected_of c).layers)) m (mean_radius m) c.centre c.points c.gains) i nan))
       (sym e)
-      (point-bounded p (answered c) s (ltb 1 (length (selected_of c).layers)) (mean_radius 0) c.centre c.points c.gains (projects p s h b) (omega (arith, points-many)) points-bounded))
+      (point_bounded p (answered c) s (ltb 1 (length (selected_of c).layers)) (mean_radius 0) c.centre c.points c.gains (projects p s h b) (omega (arith, points_many)) points_bounded))

@@ -11,10 +11,10 @@ use lib.Ieee.Back.{round_whole, positive_back, negative_back}
 use mir.ValLaws.{to_z-of_z}
 use Rattle.doubles.specs.Power.{pow2_of}
 use Rattle.approximations.specs.Exp2.{NormalExponent}
-use Rattle.doubles.proofs.Fractions.{add-of, sum-turned}
-use Rattle.doubles.proofs.PowersOfTwo.{middle, Placed, middle-placed}
-use Rattle.doubles.proofs.NearestWhole.{minus, int-value}
-use Rattle.doubles.proofs.WholePatterns.{whole-bits}
+use Rattle.doubles.proofs.Fractions.{add_of, sum_turned}
+use Rattle.doubles.proofs.PowersOfTwo.{middle, Placed, middle_placed}
+use Rattle.doubles.proofs.NearestWhole.{minus, int_value}
+use Rattle.doubles.proofs.WholePatterns.{whole_bits}
 
 abbrev pub bias : Float
 bias = fin false 4503599627371519 (pos 0)
@@ -33,8 +33,8 @@ module _ (z : ℤ) (lo : T (le_z (negsuc 1021) z)) (hi : T (le_z z (pos 1022))) 
       at (pos q) lo hi = let h = leb→le q 1022 hi in omega arith
       at (negsuc k) lo hi = omega arith
 
-  fits-64 : SFits w64 z
-  fits-64 = at z lo hi
+  fits_64 : SFits w64 z
+  fits_64 = at z lo hi
     where
       at : (z : ℤ) → T (le_z (negsuc 1021) z) → T (le_z z (pos 1022)) → SFits w64 z
       at (pos q) lo hi = record { sfits = lt_of_le_of_lt (leb→le q 1022 hi) (lit< tt) }
@@ -49,7 +49,7 @@ module _ (z : ℤ) (lo : T (le_z (negsuc 1021) z)) (hi : T (le_z z (pos 1022))) 
 
   sum_is : add binary64 (of_int binary64 z) bias ≡ round binary64 false (2 ^ 52 + field z) 1
   unfolding sum
-  sum_is = add-of binary64 (of_int binary64 z) bias (minus z) (nat_abs z) 1 false 4503599627371519 1 (zero-lt-suc 0) (zero-lt-suc 0) (int-value z exponent_small) (refl, refl) ∙ at z lo hi
+  sum_is = add_of binary64 (of_int binary64 z) bias (minus z) (nat_abs z) 1 false 4503599627371519 1 (zero-lt-suc 0) (zero-lt-suc 0) (int_value z exponent_small) (refl, refl) ∙ at z lo hi
     where
       at : (z : ℤ) → T (le_z (negsuc 1021) z) → T (le_z z (pos 1022)) → sum binary64 (minus z) (nat_abs z * 1) false 4503599627371519 1 ≡ round binary64 false (2 ^ 52 + field z) 1
       at (pos q) lo hi =
@@ -59,19 +59,19 @@ module _ (z : ℤ) (lo : T (le_z (negsuc 1021) z)) (hi : T (le_z z (pos 1022))) 
           let h = leb→le k 1021 lo in
           let l : suc k * 1 ≤ 4503599627371519 = omega arith in
           let e : 4503599627371519 - suc k * 1 ≡ 2 ^ 52 + (1022 - k) = omega arith in
-          sum-turned binary64 (suc k * 1) 4503599627371519 1 l ∙ ap (λ (n : ℕ). round binary64 false n 1) e
+          sum_turned binary64 (suc k * 1) 4503599627371519 1 l ∙ ap (λ (n : ℕ). round binary64 false n 1) e
 
-  sum-bits : (to_bits binary64 (add binary64 (of_int binary64 z) bias) ≡ 1075 * 2 ^ 52 + field z) × T (not (is_nan (add binary64 (of_int binary64 z) bias)))
-  sum-bits =
+  sum_bits : (to_bits binary64 (add binary64 (of_int binary64 z) bias) ≡ 1075 * 2 ^ 52 + field z) × T (not (is_nan (add binary64 (of_int binary64 z) bias)))
+  sum_bits =
       let h : field z < 2 ^ 52 = lt_of_lt_of_le field_lt (lit≤ tt) in
       let l : 2 ^ 52 + field z ≤ 2 ^ 53 = omega arith in
-      whole-bits (add binary64 (of_int binary64 z) bias) (field z) h (add-fits binary64 (of_int binary64 z) bias) (subst (λ (y : Float). HasValue y false (2 ^ 52 + field z) 1) (sym sum_is) (round_whole binary64 false (2 ^ 52 + field z) l))
+      whole_bits (add binary64 (of_int binary64 z) bias) (field z) h (add-fits binary64 (of_int binary64 z) bias) (subst (λ (y : Float). HasValue y false (2 ^ 52 + field z) 1) (sym sum_is) (round_whole binary64 false (2 ^ 52 + field z) l))
 
   -- the shift leaves the field
   shifted : to_bits binary64 (add binary64 (of_int binary64 z) bias) * 2 ^ 52 % 2 ^ 64 ≡ field z * 2 ^ 52 % 2 ^ 64
   shifted =
       let e : (1075 * 2 ^ 52 + field z) * 2 ^ 52 ≡ field z * 2 ^ 52 + 1075 * 2 ^ 40 * 2 ^ 64 = omega arith in
-      ap (λ (n : ℕ). n * 2 ^ 52 % 2 ^ 64) sum-bits.0 ∙ ap (λ (n : ℕ). n % 2 ^ 64) e ∙ add-mul-mod_self_right (field z * 2 ^ 52) (1075 * 2 ^ 40) (2 ^ 64)
+      ap (λ (n : ℕ). n * 2 ^ 52 % 2 ^ 64) sum_bits.0 ∙ ap (λ (n : ℕ). n % 2 ^ 64) e ∙ add-mul-mod_self_right (field z * 2 ^ 52) (1075 * 2 ^ 40) (2 ^ 64)
 
   biased : z +ℤ pos 1023 ≡ pos (field z)
   biased = at z lo
@@ -86,16 +86,16 @@ module _ (z : ℤ) (lo : T (le_z (negsuc 1021) z)) (hi : T (le_z z (pos 1022))) 
 
   placed : Placed (field z * 2 ^ 52) z
   placed =
-      let F = fits-64 in
+      let F = fits_64 in
       let s : SFits w64 (pos (field z)) = record { sfits = lt_of_lt_of_le field_lt (lit≤ tt) } in
       let e = to_z-of_z w64 z F in
       let i = ap nat_abs (ap (λ (n : ℤ). to_z w64 (of_z w64 n)) (ap (λ (n : ℤ). n +ℤ pos 1023) e ∙ biased) ∙ to_z-of_z w64 (pos (field z)) s) in
-      let m = middle z F (subst (λ (n : ℤ). lt_z (pos 1023) n ≡ false) (sym e) (not-over z hi)) (subst (λ (n : ℤ). le_z (negsuc 1021) n ≡ true) (sym e) (is_true (le_z (negsuc 1021) z) lo)) in
-      subst (λ (n : ℕ). Placed (n * 2 ^ 52) z) i (middle-placed z m)
+      let m = middle z F (subst (λ (n : ℤ). lt_z (pos 1023) n ≡ false) (sym e) (not_over z hi)) (subst (λ (n : ℤ). le_z (negsuc 1021) n ≡ true) (sym e) (is_true (le_z (negsuc 1021) z) lo)) in
+      subst (λ (n : ℕ). Placed (n * 2 ^ 52) z) i (middle_placed z m)
     where
-      not-over : (z : ℤ) → T (le_z z (pos 1022)) → lt_z (pos 1023) z ≡ false
-      not-over (pos q) hi = let h = leb→le q 1022 hi in is_false (ltb 1023 q) (le→nltb 1023 q (omega arith))
-      not-over (negsuc k) hi = refl
+      not_over : (z : ℤ) → T (le_z z (pos 1022)) → lt_z (pos 1023) z ≡ false
+      not_over (pos q) hi = let h = leb→le q 1022 hi in is_false (ltb 1023 q) (le→nltb 1023 q (omega arith))
+      not_over (negsuc k) hi = refl
 
   pub whole_back : to_signed 31 (of_int binary64 z) ≡ z
   whole_back = at z lo hi
@@ -111,11 +111,11 @@ pattern n = to_bits binary64 (add binary64 n bias) * 2 ^ 52 % 2 ^ 64
 abbrev Answer : Float → Type 0
 Answer n = T (not (is_nan (add binary64 n bias))) × T (not (nan_bits binary64 (pattern n))) × (of_bits binary64 (pattern n) ≡ pow2_of binary64 (to_signed 31 n))
 
-pub power-of : (n : Float) → NormalExponent n → Answer n
-power-of n p = subst Answer (sym p.1) (at p.0 p.2 p.3)
+pub power_of_lem : (n : Float) → NormalExponent n → Answer n
+power_of_lem n p = subst Answer (sym p.1) (at p.0 p.2 p.3)
   where
     at : (z : ℤ) → T (le_z (negsuc 1021) z) → T (le_z z (pos 1022)) → Answer (of_int binary64 z)
     at z lo hi =
         let r : Placed (field z * 2 ^ 52) z = placed z lo hi in
         let e = sym (shifted z lo hi) in
-        ((sum-bits z lo hi).1, subst (λ (b : ℕ). T (not (nan_bits binary64 b))) e r.0, subst (λ (b : ℕ). of_bits binary64 b ≡ pow2_of binary64 z) e r.1 ∙ ap (pow2_of binary64) (sym (whole_back z lo hi)))
+        ((sum_bits z lo hi).1, subst (λ (b : ℕ). T (not (nan_bits binary64 b))) e r.0, subst (λ (b : ℕ). of_bits binary64 b ≡ pow2_of binary64 z) e r.1 ∙ ap (pow2_of binary64) (sym (whole_back z lo hi)))

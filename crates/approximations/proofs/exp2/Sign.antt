@@ -9,29 +9,29 @@ use Rattle.doubles.specs.Arithmetic.{◌⊕◌, ◌⊖◌, ◌⊗◌, dec, zero6
 use Rattle.doubles.specs.Floor.{floor_of}
 use Rattle.doubles.specs.Power.{pow2_of}
 use Rattle.approximations.specs.Exp2.{polynomial_of, outside32, finite_or_zero, exp2_at, exp2_of}
-use Rattle.doubles.proofs.Magnitude.{mag, mag-val, plain-val}
-use Rattle.doubles.proofs.Order.{mag-mono, round-ge, round-under-value}
-use Rattle.doubles.proofs.Signs.{clear, round-clear, cond-clear, add-clear, mul-clear}
-use Rattle.doubles.proofs.Interpolation.{round-neg}
-use Rattle.doubles.proofs.AddZero.{not-above}
-use Rattle.doubles.proofs.Fractions.{add-of, sum-plain, sum-turned}
+use Rattle.doubles.proofs.Magnitude.{mag, mag_val, plain_val}
+use Rattle.doubles.proofs.Order.{mag_mono, round_ge, round_under_value}
+use Rattle.doubles.proofs.Signs.{clear, round_clear, cond_clear, add_clear, mul_clear}
+use Rattle.doubles.proofs.Interpolation.{round_neg}
+use Rattle.doubles.proofs.AddZero.{not_above}
+use Rattle.doubles.proofs.Fractions.{add_of, sum_plain, sum_turned}
 
 -- ---- finite
-finite-cond : (x : Float) → T (finite (finite_or_zero x))
-finite-cond nan = tt
-finite-cond (inf s) = tt
-finite-cond (fin s m e) = tt
+finite_cond : (x : Float) → T (finite (finite_or_zero x))
+finite_cond nan = tt
+finite_cond (inf s) = tt
+finite_cond (fin s m e) = tt
 
-finite-choice : (b : Bool) (x y : Float) → T (finite x) → T (finite y) → T (finite (cond b x y))
-finite-choice true x y h k = h
-finite-choice false x y h k = k
+finite_choice : (b : Bool) (x y : Float) → T (finite x) → T (finite y) → T (finite (cond b x y))
+finite_choice true x y h k = h
+finite_choice false x y h k = k
 
-pub exp2-finite : (v : Float) → T (finite (exp2_of v))
+pub exp2_finite : (v : Float) → T (finite (exp2_of v))
 unfolding exp2_of exp2_at
-exp2-finite v =
+exp2_finite v =
     let n = floor_of binary64 v in
     let r = polynomial_of (v ⊖ n) ⊗ pow2_of binary64 (to_signed 31 n) in
-    finite-choice (finite v) (exp2_at v n) zero64 (finite-choice (outside32 n) zero64 (finite_or_zero r) tt (finite-cond r)) tt
+    finite_choice (finite v) (exp2_at v n) zero64 (finite_choice (outside32 n) zero64 (finite_or_zero r) tt (finite_cond r)) tt
 
 -- ---- x - y for a y up to x, and y - x
 pub neg_value : (y : Float) (s : Bool) (b d : ℕ) → HasValue y s b d → HasValue (neg y) (not s) b d
@@ -40,32 +40,32 @@ neg_value nan s b d h = h
 neg_value (inf t) s b d h = h
 neg_value (fin t n g) s b d h = (ap not h.0, h.1)
 
-less-clear : (f : Format) (x y : Float) (a c b d : ℕ) → 0 < c → 0 < d → HasValue x false a c → HasValue y false b d → b * c ≤ a * d → T (clear (sub f x y))
+less_clear : (f : Format) (x y : Float) (a c b d : ℕ) → 0 < c → 0 < d → HasValue x false a c → HasValue y false b d → b * c ≤ a * d → T (clear (sub f x y))
 unfolding sub
-less-clear f x y a c b d C D v w h =
-    subst (λ (z : Float). T (clear z)) (sym (add-of f x (neg y) false a c true b d C D v (neg_value y false b d w) ∙ sum-plain f (a * d) (b * c) (c * d) h)) (round-clear f (a * d - b * c) (c * d))
+less_clear f x y a c b d C D v w h =
+    subst (λ (z : Float). T (clear z)) (sym (add_of f x (neg y) false a c true b d C D v (neg_value y false b d w) ∙ sum_plain f (a * d) (b * c) (c * d) h)) (round_clear f (a * d - b * c) (c * d))
 
 -- ---- the floor q / 1 of a / D, in units of 2 ^ -low
-down-units : (a D q l M : ℕ) → 0 < D → q * D ≤ a → a * l ≡ M * D → q * l ≤ M * 1
-down-units a D q l M P h e = le_of_mul-le-mul_right (le_trans (le_of_eq (mul_right_comm q l D)) (le_trans (mul-le-mul_right l h) (le_of_eq (e ∙ ap (λ (z : ℕ). z * D) (sym (mul-one M)))))) P
+down_units : (a D q l M : ℕ) → 0 < D → q * D ≤ a → a * l ≡ M * D → q * l ≤ M * 1
+down_units a D q l M P h e = le_of_mul-le-mul_right (le_trans (le_of_eq (mul_right_comm q l D)) (le_trans (mul-le-mul_right l h) (le_of_eq (e ∙ ap (λ (z : ℕ). z * D) (sym (mul-one M)))))) P
 
-up-units : (a D q l M : ℕ) → 0 < D → a ≤ q * D → a * l ≡ M * D → M * 1 ≤ q * l
-up-units a D q l M P h e = le_of_mul-le-mul_right (le_trans (le_of_eq (ap (λ (z : ℕ). z * D) (mul-one M) ∙ sym e)) (le_trans (mul-le-mul_right l h) (le_of_eq (mul_right_comm q D l)))) P
+up_units : (a D q l M : ℕ) → 0 < D → a ≤ q * D → a * l ≡ M * D → M * 1 ≤ q * l
+up_units a D q l M P h e = le_of_mul-le-mul_right (le_trans (le_of_eq (ap (λ (z : ℕ). z * D) (mul-one M) ∙ sym e)) (le_trans (mul-le-mul_right l h) (le_of_eq (mul_right_comm q D l)))) P
 
 pub up_from : (a D : ℕ) → 0 < D → a ≤ (a + (D - 1)) / D * D
 up_from a D P = let h : a + (D - 1) < (a + (D - 1)) / D * D + D = lt-div-mul-add P in omega arith
 
 -- -|v| + w, for a w from |v| up
-over-clear : (f : Format) (m : ℕ) (e : ℤ) (w : Float) → T (fits f (fin false m e)) → T (fits f w) → T (clear w) → T (le (fin false m e) w) → T (clear (add f (fin true m e) w))
-over-clear f m e nan h k c l = unfold add in tt
-over-clear f m e (inf s) h k c l = unfold add in c
-over-clear f m e (fin true n g) h k c l = absurd c
-over-clear f m e (fin false n g) h k c l =
+over_clear : (f : Format) (m : ℕ) (e : ℤ) (w : Float) → T (fits f (fin false m e)) → T (fits f w) → T (clear w) → T (le (fin false m e) w) → T (clear (add f (fin true m e) w))
+over_clear f m e nan h k c l = unfold add in tt
+over_clear f m e (inf s) h k c l = unfold add in c
+over_clear f m e (fin true n g) h k c l = absurd c
+over_clear f m e (fin false n g) h k c l =
     let u = 2 ^ low f in
     let U = pow_pos (low f) in
     let x = fin false m e in
     let y = fin false n g in
-    subst (λ (z : Float). T (clear z)) (sym (add-of f (fin true m e) y true (mag f x) u false (mag f y) u U U (refl, (mag-val f x h tt).1) (plain-val f y k tt) ∙ sum-turned f (mag f x * u) (mag f y * u) (u * u) (mul-le-mul_right u (mag-mono f x y h k tt tt l)))) (round-clear f (mag f y * u - mag f x * u) (u * u))
+    subst (λ (z : Float). T (clear z)) (sym (add_of f (fin true m e) y true (mag f x) u false (mag f y) u U U (refl, (mag_val f x h tt).1) (plain_val f y k tt) ∙ sum_turned f (mag f x * u) (mag f y * u) (u * u) (mul-le-mul_right u (mag_mono f x y h k tt tt l)))) (round_clear f (mag f y * u - mag f x * u) (u * u))
 
 twice : (w : Float) → neg (neg w) ≡ w
 unfolding neg
@@ -75,56 +75,56 @@ twice (inf false) = refl
 twice (fin true m e) = refl
 twice (fin false m e) = refl
 
-pub fraction-clear : (f : Format) (v : Float) → T (fits f v) → T (finite v) → T (clear (sub f v (floor_of f v)))
+pub fraction_clear : (f : Format) (v : Float) → T (fits f v) → T (finite v) → T (clear (sub f v (floor_of f v)))
 unfolding floor_of sub
-fraction-clear f nan h t = absurd t
-fraction-clear f (inf s) h t = absurd t
-fraction-clear f (fin false m e) h t =
+fraction_clear f nan h t = absurd t
+fraction_clear f (inf s) h t = absurd t
+fraction_clear f (fin false m e) h t =
     let x = fin false m e in
     let q = m * up e / down e in
     let u = 2 ^ low f in
     let U = pow_pos (low f) in
-    let r = round-under-value f q 1 x h tt (zero-lt-suc 0) (down-units (m * up e) (down e) q u (mag f x) (down_pos e) (div-mul-le_self (m * up e) (down e)) (mag-val f x h tt).1) in
+    let r = round_under_value f q 1 x h tt (zero-lt-suc 0) (down_units (m * up e) (down e) q u (mag f x) (down_pos e) (div-mul-le_self (m * up e) (down e)) (mag_val f x h tt).1) in
     let y = round f false q 1 in
-    less-clear f x y (mag f x) u (mag f y) u U U (plain-val f x h tt) (plain-val f y (round-fits f false q 1) r.0) (mul-le-mul_right u r.1)
-fraction-clear f (fin true m e) h t =
+    less_clear f x y (mag f x) u (mag f y) u U U (plain_val f x h tt) (plain_val f y (round-fits f false q 1) r.0) (mul-le-mul_right u r.1)
+fraction_clear f (fin true m e) h t =
     let x = fin false m e in
     let k : T (fits f x) = subst (λ (z : Float). T (fits f z)) (unfold neg in refl) (neg-fits f (fin true m e) h) in
     let q = (m * up e + (down e - 1)) / down e in
-    let l = round-ge f q 1 x k tt (zero-lt-suc 0) (up-units (m * up e) (down e) q (2 ^ low f) (mag f x) (down_pos e) (up_from (m * up e) (down e) (down_pos e)) (mag-val f x k tt).1) in
+    let l = round_ge f q 1 x k tt (zero-lt-suc 0) (up_units (m * up e) (down e) q (2 ^ low f) (mag f x) (down_pos e) (up_from (m * up e) (down e) (down_pos e)) (mag_val f x k tt).1) in
     let w = round f false q 1 in
-    subst (λ (z : Float). T (clear (add f (fin true m e) z))) (sym (ap neg (round-neg f q 1) ∙ twice w)) (over-clear f m e w k (round-fits f false q 1) (round-clear f q 1) l)
+    subst (λ (z : Float). T (clear (add f (fin true m e) z))) (sym (ap neg (round_neg f q 1) ∙ twice w)) (over_clear f m e w k (round-fits f false q 1) (round_clear f q 1) l)
 
 -- ---- clear
-polynomial-clear : (x : Float) → T (clear x) → T (clear (polynomial_of x))
-polynomial-clear x c =
+polynomial_clear : (x : Float) → T (clear x) → T (clear (polynomial_of x))
+polynomial_clear x c =
     let a = dec 686279297 9 in
     let b = dec 254821777 9 in
     let d = dec 588989258 10 in
-    let A = mul-clear binary64 a x (round-clear binary64 686279297 (10 ^ 9)) c in
-    let B = mul-clear binary64 (b ⊗ x) x (mul-clear binary64 b x (round-clear binary64 254821777 (10 ^ 9)) c) c in
-    let D = mul-clear binary64 (d ⊗ x ⊗ x) x (mul-clear binary64 (d ⊗ x) x (mul-clear binary64 d x (round-clear binary64 588989258 (10 ^ 10)) c) c) c in
-    add-clear binary64 (one64 ⊕ a ⊗ x ⊕ b ⊗ x ⊗ x) (d ⊗ x ⊗ x ⊗ x) (add-clear binary64 (one64 ⊕ a ⊗ x) (b ⊗ x ⊗ x) (add-clear binary64 one64 (a ⊗ x) tt A) B) D
+    let A = mul_clear binary64 a x (round_clear binary64 686279297 (10 ^ 9)) c in
+    let B = mul_clear binary64 (b ⊗ x) x (mul_clear binary64 b x (round_clear binary64 254821777 (10 ^ 9)) c) c in
+    let D = mul_clear binary64 (d ⊗ x ⊗ x) x (mul_clear binary64 (d ⊗ x) x (mul_clear binary64 d x (round_clear binary64 588989258 (10 ^ 10)) c) c) c in
+    add_clear binary64 (one64 ⊕ a ⊗ x ⊕ b ⊗ x ⊗ x) (d ⊗ x ⊗ x ⊗ x) (add_clear binary64 (one64 ⊕ a ⊗ x) (b ⊗ x ⊗ x) (add_clear binary64 one64 (a ⊗ x) tt A) B) D
 
-power-clear : (z : ℤ) → T (clear (pow2_of binary64 z))
+power_clear : (z : ℤ) → T (clear (pow2_of binary64 z))
 unfolding pow2_of
-power-clear z = round-clear binary64 (up z) (down z)
+power_clear z = round_clear binary64 (up z) (down z)
 
-pub exp2-clear : (v : Float) → T (fits binary64 v) → T (clear (exp2_of v))
+pub exp2_clear : (v : Float) → T (fits binary64 v) → T (clear (exp2_of v))
 unfolding exp2_of exp2_at
-exp2-clear nan h = tt
-exp2-clear (inf s) h = tt
-exp2-clear (fin s m e) h =
+exp2_clear nan h = tt
+exp2_clear (inf s) h = tt
+exp2_clear (fin s m e) h =
     let v = fin s m e in
     let n = floor_of binary64 v in
     let r = polynomial_of (v ⊖ n) ⊗ pow2_of binary64 (to_signed 31 n) in
-    cond-clear (outside32 n) zero64 (finite_or_zero r) tt
-    (cond-clear (finite r) r zero64 (mul-clear binary64 (polynomial_of (v ⊖ n)) (pow2_of binary64 (to_signed 31 n)) (polynomial-clear (v ⊖ n) (fraction-clear binary64 v h tt)) (power-clear (to_signed 31 n))) tt)
+    cond_clear (outside32 n) zero64 (finite_or_zero r) tt
+    (cond_clear (finite r) r zero64 (mul_clear binary64 (polynomial_of (v ⊖ n)) (pow2_of binary64 (to_signed 31 n)) (polynomial_clear (v ⊖ n) (fraction_clear binary64 v h tt)) (power_clear (to_signed 31 n))) tt)
 
 -- ---- where it is not above 0, it is 0
-pub exp2-fits : (v : Float) → T (fits binary64 (exp2_of v))
+pub exp2_fits : (v : Float) → T (fits binary64 (exp2_of v))
 unfolding exp2_of exp2_at
-exp2-fits v =
+exp2_fits v =
     let n = floor_of binary64 v in
     let r = polynomial_of (v ⊖ n) ⊗ pow2_of binary64 (to_signed 31 n) in
     choice (finite v) (exp2_at v n) zero64
@@ -137,5 +137,5 @@ exp2-fits v =
     choice true x y h k = h
     choice false x y h k = k
 
-pub exp2-zero : (v : Float) → T (fits binary64 v) → T (not (lt zero64 (exp2_of v))) → exp2_of v ≡ zero64
-exp2-zero v h l = not-above binary64 (exp2_of v) (exp2-fits v) (exp2-finite v) (exp2-clear v h) l
+pub exp2_zero : (v : Float) → T (fits binary64 v) → T (not (lt zero64 (exp2_of v))) → exp2_of v ≡ zero64
+exp2_zero v h l = not_above binary64 (exp2_of v) (exp2_fits v) (exp2_finite v) (exp2_clear v h) l

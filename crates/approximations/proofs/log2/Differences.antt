@@ -8,7 +8,7 @@ use lib.Ieee.Bits.{cond_no}
 use lib.Ieee.Exact.{HasValue}
 use lib.Ieee.Back.{round_whole}
 use lib.Ieee.Scale.{round_same}
-use Rattle.doubles.proofs.Exponents.{split, cond_yes, minus-neg, minus_pos}
+use Rattle.doubles.proofs.Exponents.{split, cond_yes, minus_neg, minus_pos}
 
 -- n C / C - k C / C, by which is the larger
 parts : (f : Format) (n k A B C : ℕ) → 0 < C → A ≡ n * C → B ≡ k * C → sum f false A true B C ≡ of_int f (minus n k)
@@ -25,34 +25,34 @@ parts f n k A B C P a b = go (split n k)
         cond_yes (ltb A B) (round f true (B - A) C) (round f false (A - B) C) (lt→ltb A B l)
         ∙ round_same f true (B - A) C (k - n) 1 P (zero-lt-suc 0) (over k n B A b a)
         ∙ ap (λ (z : ℕ). round f true z 1) e
-        ∙ ap (of_int f) (sym (minus-neg n k h))
+        ∙ ap (of_int f) (sym (minus_neg n k h))
     go (inr h) =
         let l : B ≤ A = le_trans (le_of_eq b) (le_trans (mul-le-mul_right C h) (le_of_eq (sym a))) in
         cond_no (ltb A B) (round f true (B - A) C) (round f false (A - B) C) (le→nltb A B l)
         ∙ round_same f false (A - B) C (n - k) 1 P (zero-lt-suc 0) (over n k A B a b)
         ∙ ap (of_int f) (sym (minus_pos n k h))
 
-pub sub-whole : (f : Format) (x y : Float) (n k : ℕ) → HasValue x false n 1 → HasValue y false k 1 → sub f x y ≡ of_int f (minus n k)
+pub sub_whole : (f : Format) (x y : Float) (n k : ℕ) → HasValue x false n 1 → HasValue y false k 1 → sub f x y ≡ of_int f (minus n k)
 unfolding sub add neg
-sub-whole f nan y n k v w = absurd v
-sub-whole f (inf s) y n k v w = absurd v
-sub-whole f (fin s m e) nan n k v w = absurd w
-sub-whole f (fin s m e) (inf t) n k v w = absurd w
-sub-whole f (fin true m e) (fin t p g) n k v w = absurd (true≢false v.0)
-sub-whole f (fin false m e) (fin true p g) n k v w = absurd (true≢false w.0)
-sub-whole f (fin false m e) (fin false p g) n k v w =
+sub_whole f nan y n k v w = absurd v
+sub_whole f (inf s) y n k v w = absurd v
+sub_whole f (fin s m e) nan n k v w = absurd w
+sub_whole f (fin s m e) (inf t) n k v w = absurd w
+sub_whole f (fin true m e) (fin t p g) n k v w = absurd (true≢false v.0)
+sub_whole f (fin false m e) (fin true p g) n k v w = absurd (true≢false w.0)
+sub_whole f (fin false m e) (fin false p g) n k v w =
     parts f n k (m * up e * down g) (p * up g * down e) (down e * down g) (mul-pos (down_pos e) (down_pos g))
     (ap (λ (z : ℕ). z * down g) (sym (mul-one (m * up e)) ∙ v.1) ∙ mul_assoc n (down e) (down g))
     (ap (λ (z : ℕ). z * down e) (sym (mul-one (p * up g)) ∙ w.1) ∙ mul_right_comm k (down g) (down e) ∙ mul_assoc k (down e) (down g))
 
 -- the exponent, from the field
-bias-is : of_bits binary64 0x408f_f000_0000_0000 ≡ of_int binary64 (pos 1022)
+bias_is : of_bits binary64 0x408f_f000_0000_0000 ≡ of_int binary64 (pos 1022)
 unfolding of_bits of_int round
-bias-is = refl
+bias_is = refl
 
-whole-value : (n : ℕ) → n ≤ 2 ^ 53 → HasValue (of_int binary64 (pos n)) false n 1
+whole_value : (n : ℕ) → n ≤ 2 ^ 53 → HasValue (of_int binary64 (pos n)) false n 1
 unfolding of_int
-whole-value n h = round_whole binary64 false n h
+whole_value n h = round_whole binary64 false n h
 
-pub exponent-is : (n : ℕ) → n ≤ 2 ^ 53 → sub binary64 (of_int binary64 (pos n)) (of_bits binary64 0x408f_f000_0000_0000) ≡ of_int binary64 (minus n 1022)
-exponent-is n h = rw bias-is (sub-whole binary64 (of_int binary64 (pos n)) (of_int binary64 (pos 1022)) n 1022 (whole-value n h) (whole-value 1022 (lit≤ tt)))
+pub exponent_is : (n : ℕ) → n ≤ 2 ^ 53 → sub binary64 (of_int binary64 (pos n)) (of_bits binary64 0x408f_f000_0000_0000) ≡ of_int binary64 (minus n 1022)
+exponent_is n h = rw bias_is (sub_whole binary64 (of_int binary64 (pos n)) (of_int binary64 (pos 1022)) n 1022 (whole_value n h) (whole_value 1022 (lit≤ tt)))

@@ -35,29 +35,29 @@ next m i h =
     two : (i : ℕ) → i < 27 → 52 - 2 * i ≡ 54 - 2 * (i + 1)
     two i h = omega arith
 
-pub so-root : (n k q r : ℕ) → So n k q r → IsRoot n q
-so-root n k q r a = let e = a.sum in let h = a.rest in (omega arith, omega arith)
+pub so_root : (n k q r : ℕ) → So n k q r → IsRoot n q
+so_root n k q r a = let e = a.sum in let h = a.rest in (omega arith, omega arith)
 
-pub so-start : (m : ℕ) → m < 2 ^ 54 → So (m / 2 ^ 54) 0 0 0
-so-start m h = record { sum = sym (div-eq_of_lt h); rest = le_refl 0; few = lit< tt }
+pub so_start : (m : ℕ) → m < 2 ^ 54 → So (m / 2 ^ 54) 0 0 0
+so_start m h = record { sum = sym (div-eq_of_lt h); rest = le_refl 0; few = lit< tt }
 
-pub so-room : (P k q r : ℕ) → So P k q r → k ≤ 53 → q < 2 ^ 53
-so-room P k q r a h = lt_of_lt_of_le a.few (pow_mono h)
+pub so_room : (P k q r : ℕ) → So P k q r → k ≤ 53 → q < 2 ^ 53
+so_room P k q r a h = lt_of_lt_of_le a.few (pow_mono h)
 
-pub so-next : (m i q r q' r' : ℕ) → i < 27 → So (m / 2 ^ (54 - 2 * i)) i q r → Steps q r (bit_and (m / 2 ^ (52 - 2 * i)) 3) q' r' → So (m / 2 ^ (54 - 2 * (i + 1))) (i + 1) q' r'
-so-next m i q r q' r' h a s =
+pub so_next : (m i q r q' r' : ℕ) → i < 27 → So (m / 2 ^ (54 - 2 * i)) i q r → Steps q r (bit_and (m / 2 ^ (52 - 2 * i)) 3) q' r' → So (m / 2 ^ (54 - 2 * (i + 1))) (i + 1) q' r'
+so_next m i q r q' r' h a s =
     subst (λ (z : ℕ). So z (i + 1) q' r') (next m i h) (subst (λ (k : ℕ). So (m / 2 ^ (54 - 2 * i) * 4 + bit_and (m / 2 ^ (52 - 2 * i)) 3) k q' r') (sym (add-one i)) (so_step _ i q r _ q' r' a s))
 
-pub so-zeros : (m j q r q' r' : ℕ) → So (m * 4 ^ j) (27 + j) q r → Steps q r 0 q' r' → So (m * 4 ^ (j + 1)) (27 + (j + 1)) q' r'
-so-zeros m j q r q' r' a s =
+pub so_zeros : (m j q r q' r' : ℕ) → So (m * 4 ^ j) (27 + j) q r → Steps q r 0 q' r' → So (m * 4 ^ (j + 1)) (27 + (j + 1)) q' r'
+so_zeros m j q r q' r' a s =
     subst (λ (k : ℕ). So (m * 4 ^ (j + 1)) k q' r') (more j)
     (subst (λ (z : ℕ). So z (suc (27 + j)) q' r') (add-zero (m * 4 ^ j * 4) ∙ mul_assoc m (4 ^ j) 4 ∙ ap (λ (z : ℕ). m * z) (sym (pow-suc 4 j) ∙ ap (λ (z : ℕ). 4 ^ z) (sym (add-one j)))) (so_step (m * 4 ^ j) (27 + j) q r 0 q' r' a s))
   where
     more : (j : ℕ) → suc (27 + j) ≡ 27 + (j + 1)
     more j = omega arith
 
-pub so-half : (m i q r : ℕ) → i ≡ 27 → So (m / 2 ^ (54 - 2 * i)) i q r → So (m * 1) 27 q r
-so-half m i q r e a = subst (λ (z : ℕ). So z 27 q r) (div-one m ∙ sym (mul-one m)) (subst (λ (k : ℕ). So (m / 2 ^ (54 - 2 * k)) k q r) e a)
+pub so_half : (m i q r : ℕ) → i ≡ 27 → So (m / 2 ^ (54 - 2 * i)) i q r → So (m * 1) 27 q r
+so_half m i q r e a = subst (λ (z : ℕ). So z 27 q r) (div-one m ∙ sym (mul-one m)) (subst (λ (k : ℕ). So (m / 2 ^ (54 - 2 * k)) k q r) e a)
 
-pub so-whole : (m j q r : ℕ) → j ≡ 27 → So (m * 4 ^ j) (27 + j) q r → IsRoot (m * 2 ^ 54) q
-so-whole m j q r e a = so-root (m * 2 ^ 54) 54 q r (subst (λ (k : ℕ). So (m * 4 ^ k) (27 + k) q r) e a)
+pub so_whole : (m j q r : ℕ) → j ≡ 27 → So (m * 4 ^ j) (27 + j) q r → IsRoot (m * 2 ^ 54) q
+so_whole m j q r e a = so_root (m * 2 ^ 54) 54 q r (subst (λ (k : ℕ). So (m * 4 ^ k) (27 + k) q r) e a)

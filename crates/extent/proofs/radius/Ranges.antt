@@ -10,23 +10,23 @@ use Rattle.extent.specs.declared.Extent.{Extent}
 use Rattle.extent.specs.Extent.{component, quantised, mean_of}
 
 -- a number from 0 to 1 is finite
-pub component-is : (v : Float) → is_between zero64 one64 v ≡ component v
+pub component_is : (v : Float) → is_between zero64 one64 v ≡ component v
 unfolding le lt eq
-component-is nan = refl
-component-is (inf true) = refl
-component-is (inf false) = refl
-component-is (fin s m e) = refl
+component_is nan = refl
+component_is (inf true) = refl
+component_is (inf false) = refl
+component_is (fin s m e) = refl
 
-pub quantised-le : (v : Float) → quantised v ≤ 32767
+pub quantised_le : (v : Float) → quantised v ≤ 32767
 unfolding quantised
-quantised-le v = at (component v) _
+quantised_le v = at (component v) _
   where
     at : (b : Bool) (q : ℕ) → cond b (min q 32767) 0 ≤ 32767
     at true q = omega arith
     at false q = omega arith
 
-pub mean-le : (e : Extent) → mean_of e ≤ 32767
-mean-le e = third (quantised-le _) (quantised-le _) (quantised-le _)
+pub mean_le : (e : Extent) → mean_of e ≤ 32767
+mean_le e = third (quantised_le _) (quantised_le _) (quantised_le _)
   where
     third : {x y z : ℕ} → x ≤ 32767 → y ≤ 32767 → z ≤ 32767 → (x + y + z) / 3 ≤ 32767
     third a b c = omega arith

@@ -36,24 +36,24 @@ unfolding radius_of
 clamped x s h = ap by_knots h
 
 module _ (s : Float) where
-  pub first-is : le s zero64 ≡ true → by_knots s ≡ zero64
-  first-is a = rw a
+  pub first_is : le s zero64 ≡ true → by_knots s ≡ zero64
+  first_is a = rw a
 
   module _ (a : le s zero64 ≡ false) where
     pub second_is : le s (dec 2 1) ≡ true → by_knots s ≡ radius_between (knot_at 0) (knot_at 1) s
     second_is b = rw (a, b)
 
     module _ (b : le s (dec 2 1) ≡ false) where
-      pub third-is : le s (dec 5 1) ≡ true → by_knots s ≡ radius_between (knot_at 1) (knot_at 2) s
-      third-is c = rw (a, b, c)
+      pub third_is : le s (dec 5 1) ≡ true → by_knots s ≡ radius_between (knot_at 1) (knot_at 2) s
+      third_is c = rw (a, b, c)
 
       module _ (c : le s (dec 5 1) ≡ false) where
-        pub fourth-is : le s (dec 75 2) ≡ true → by_knots s ≡ radius_between (knot_at 2) (knot_at 3) s
-        fourth-is d = rw (a, b, c, d)
+        pub fourth_is : le s (dec 75 2) ≡ true → by_knots s ≡ radius_between (knot_at 2) (knot_at 3) s
+        fourth_is d = rw (a, b, c, d)
 
         module _ (d : le s (dec 75 2) ≡ false) where
-          pub fifth-is : le s one64 ≡ true → by_knots s ≡ radius_between (knot_at 3) (knot_at 4) s
-          fifth-is e = rw (a, b, c, d, e)
+          pub fifth_is : le s one64 ≡ true → by_knots s ≡ radius_between (knot_at 3) (knot_at 4) s
+          fifth_is e = rw (a, b, c, d, e)
 
-          pub last-is : le s one64 ≡ false → by_knots s ≡ dec 7 1
-          last-is e = rw (a, b, c, d, e)
+          pub last_is : le s one64 ≡ false → by_knots s ≡ dec 7 1
+          last_is e = rw (a, b, c, d, e)

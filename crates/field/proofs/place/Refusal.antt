@@ -44,11 +44,11 @@ granted f g s p e h = ap (λ (k : ℕ). grant k s p) (sym e) ∙ not-false (gran
 
 -- ---- where nothing refuses
 module _ (f s p : ℕ) (h : refusal f s p ≡ false) where
-  pub none-refuses : f ≡ 0
-  none-refuses = eqb-true f 0 (both_left (eqb f 0) (leb 285312 s) (both_left (eqb f 0 && leb 285312 s) (ltb p 8) (granted f f s p refl h)))
+  pub none_refuses : f ≡ 0
+  none_refuses = eqb-true f 0 (both_left (eqb f 0) (leb 285312 s) (both_left (eqb f 0 && leb 285312 s) (ltb p 8) (granted f f s p refl h)))
 
-  pub long-enough : 285312 ≤ s
-  long-enough = leb-true 285312 s (both_right (eqb f 0) (leb 285312 s) (both_left (eqb f 0 && leb 285312 s) (ltb p 8) (granted f f s p refl h)))
+  pub long_enough : 285312 ≤ s
+  long_enough = leb-true 285312 s (both_right (eqb f 0) (leb 285312 s) (both_left (eqb f 0 && leb 285312 s) (ltb p 8) (granted f f s p refl h)))
 
-  pub among-eight : p < 8
-  among-eight = ltb-true p 8 (both_right (eqb f 0 && leb 285312 s) (ltb p 8) (granted f f s p refl h))
+  pub among_eight : p < 8
+  among_eight = ltb-true p 8 (both_right (eqb f 0 && leb 285312 s) (ltb p 8) (granted f f s p refl h))

@@ -12,7 +12,7 @@ use lib.ListN.{length, get_or, take}
 use Rattle.field.specs.Knots.{steps}
 use Rattle.field.specs.Responses.{layer_pick}
 use Rattle.field.specs.Steps.Flat.{iterate, pick_added, group_pick, pick_end, response_added, responded, responded_z, Parted, Grouped}
-use Rattle.field.proofs.response.Picks.{part-pick-end}
+use Rattle.field.proofs.response.Picks.{part_pick_end}
 use Rattle.field.proofs.response.Parts.{fewer}
 
 pub run_more : (n : ℕ) (g : ℕ → List Float → List Float) (out : List Float) → iterate (n + 1) g out ≡ g n (iterate n g out)
@@ -22,47 +22,47 @@ run_more n g out = rw add-one
 module _ (at parts : List ℕ) (v : List Float) (groups : List ℕ) where
   -- ---- one group more
   module _ (base : ℕ) (u : Float) (out : List Float) where
-    pub response-none : response_added base at parts v groups 0 u out ≡ out
+    pub response_none : response_added base at parts v groups 0 u out ≡ out
     unfolding response_added iterate
-    response-none = refl
+    response_none = refl
 
-    pub response-more : (g : ℕ) → response_added base at parts v groups (g + 1) u out ≡ pick_added base at parts (group_pick v groups u g) (response_added base at parts v groups g u out)
+    pub response_more : (g : ℕ) → response_added base at parts v groups (g + 1) u out ≡ pick_added base at parts (group_pick v groups u g) (response_added base at parts v groups g u out)
     unfolding response_added
-    response-more g = run_more g _ out
+    response_more g = run_more g _ out
 
   -- a group's coordinates are there and finite, and its pick has its anchors
   module _ (count : ℕ) (u : Float) (t : T (finite u)) (k : Grouped v groups count) (g : ℕ) (h : g < count) where
-    pub group-within : get_or groups (g + 1) 0 ≤ length v
-    group-within = le_trans (k.ends g h) k.within
+    pub group_within : get_or groups (g + 1) 0 ≤ length v
+    group_within = le_trans (k.ends g h) k.within
 
-    pub group-first : T (finite (get_or v (get_or groups g 0) nan))
-    group-first = k.finites g (get_or groups g 0) h (le_refl (get_or groups g 0)) (k.some g h)
+    pub group_first : T (finite (get_or v (get_or groups g 0) nan))
+    group_first = k.finites g (get_or groups g 0) h (le_refl (get_or groups g 0)) (k.some g h)
 
-    pub group-last : T (finite (get_or v (get_or groups (g + 1) 0 - 1) nan))
-    group-last = let s = k.some g h in k.finites g (get_or groups (g + 1) 0 - 1) h (omega arith) (omega arith)
+    pub group_last : T (finite (get_or v (get_or groups (g + 1) 0 - 1) nan))
+    group_last = let s = k.some g h in k.finites g (get_or groups (g + 1) 0 - 1) h (omega arith) (omega arith)
 
-    pub group-parted : Parted at parts (get_or groups count 0) → Parted at parts (pick_end (group_pick v groups u g))
+    pub group_parted : Parted at parts (get_or groups count 0) → Parted at parts (pick_end (group_pick v groups u g))
     unfolding group_pick
-    group-parted p =
+    group_parted p =
         fewer at parts (get_or groups count 0) (pick_end (group_pick v groups u g))
-        (le_trans (part-pick-end v (get_or groups g 0) (get_or groups (g + 1) 0) u (k.some g h) group-within t group-first) (k.ends g h)) p
+        (le_trans (part_pick_end v (get_or groups g 0) (get_or groups (g + 1) 0) u (k.some g h) group_within t group_first) (k.ends g h)) p
 
   -- ---- one sample more
   module _ (count : ℕ) (out : List Float) where
-    pub responded-none : responded at parts v groups count 0 out ≡ out
+    pub responded_none : responded at parts v groups count 0 out ≡ out
     unfolding responded iterate
-    responded-none = refl
+    responded_none = refl
 
-    pub responded-more : (s : ℕ) → responded at parts v groups count (s + 1) out ≡ response_added (s * 24) at parts v groups count (steps 19 s) (responded at parts v groups count s out)
+    pub responded_more : (s : ℕ) → responded at parts v groups count (s + 1) out ≡ response_added (s * 24) at parts v groups count (steps 19 s) (responded at parts v groups count s out)
     unfolding responded
-    responded-more s = run_more s _ out
+    responded_more s = run_more s _ out
 
 -- ---- on Z
 module _ (at parts : List ℕ) (zs : List Float) (depth : ℕ) where
-  pub responded-z-none : (out : List Float) → responded_z at parts zs depth 0 out ≡ out
+  pub responded_z_none : (out : List Float) → responded_z at parts zs depth 0 out ≡ out
   unfolding responded_z iterate
-  responded-z-none out = refl
+  responded_z_none out = refl
 
-  pub responded-z-more : (out : List Float) (s : ℕ) → responded_z at parts zs depth (s + 1) out ≡ pick_added (s * 24) at parts (layer_pick (take depth zs) (steps 7 s)) (responded_z at parts zs depth s out)
+  pub responded_z_more : (out : List Float) (s : ℕ) → responded_z at parts zs depth (s + 1) out ≡ pick_added (s * 24) at parts (layer_pick (take depth zs) (steps 7 s)) (responded_z at parts zs depth s out)
   unfolding responded_z
-  responded-z-more out s = run_more s _ out
+  responded_z_more out s = run_more s _ out

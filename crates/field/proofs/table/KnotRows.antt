@@ -10,8 +10,8 @@ use Rattle.extent.specs.Kernel.{kernel_of, exponent_of}
 use Rattle.field.specs.Knots.{Axis, X, Y, Z, is_z, sample_count, sample, centre_knot, radius_knot}
 use Rattle.field.specs.Patched.{patched, within, either}
 use Rattle.field.specs.Tables.{sampled_over, knot_number, number_xy, row}
-use Rattle.field.proofs.Patching.{get_or-written, within-holds, within-fails, within_none, within-join, patched-none, patched-both, patched-where}
-use Rattle.field.proofs.Tables.{sampled-cong, rows_more, rows-patched, row-patched, number-X, number-Y}
+use Rattle.field.proofs.Patching.{get_or_written, within_holds, within_fails, within_none, within_join, patched_none, patched_both, patched_where}
+use Rattle.field.proofs.Tables.{sampled_cong, rows_more, rows_patched, row_patched, number_X, number_Y}
 
 -- the kernels of a knot, written over a list
 abbrev pub kernels_at : Axis → ℕ → List Float → List Float
@@ -22,13 +22,13 @@ abbrev pub listed : Axis → List Float → List Float → ℕ → ℕ → Float
 listed a kernels responses knot k =
     sampled_over (λ (s : ℕ). get_or kernels s nan) (λ (s : ℕ). get_or responses (s * 24 + k) nan) (exponent_of (radius_knot (knot % 20))) (sample_count a)
 
-pub listed-is : (a : Axis) (zs responses : List Float) (knot k : ℕ) → sample_count a ≤ length zs → listed a (kernels_at a knot zs) responses knot k ≡ knot_number a responses knot k
+pub listed_is : (a : Axis) (zs responses : List Float) (knot k : ℕ) → sample_count a ≤ length zs → listed a (kernels_at a knot zs) responses knot k ≡ knot_number a responses knot k
 unfolding knot_number
-listed-is a zs responses knot k l =
+listed_is a zs responses knot k l =
     let K : ℕ → Float = λ (s : ℕ). kernel_of (sample a s) (centre_knot a (knot / 20)) (radius_knot (knot % 20)) (is_z a) in
     let R : ℕ → Float = λ (s : ℕ). get_or responses (s * 24 + k) nan in
-    sampled-cong (λ (s : ℕ). get_or (kernels_at a knot zs) s nan) K R R (exponent_of (radius_knot (knot % 20))) (sample_count a)
-    (λ (s : ℕ) (h : s < sample_count a). get_or-written (within 0 (sample_count a)) K zs s nan (omega arith) (within-holds 0 (sample_count a) s zero-le h))
+    sampled_cong (λ (s : ℕ). get_or (kernels_at a knot zs) s nan) K R R (exponent_of (radius_knot (knot % 20))) (sample_count a)
+    (λ (s : ℕ) (h : s < sample_count a). get_or_written (within 0 (sample_count a)) K zs s nan (omega arith) (within_holds 0 (sample_count a) s zero-le h))
     (λ (s : ℕ) (h : s < sample_count a). refl)
 
 -- ---- X and Y
@@ -38,29 +38,29 @@ abbrev pub table_xy : List Float → List Float → ℕ → ℕ → ℕ → Floa
 table_xy x y base n i = number_xy x y ((i - base) / n) ((i - base) % n)
 
 -- one knot's rows of X and Y
-pub knot-XY : (base n knot : ℕ) (x y zs xs : List Float) → knot < 700 → 20 ≤ length zs → patched (row base n (700 + knot)) (λ (i : ℕ). listed Y (kernels_at Y knot zs) y knot (i - (base + (700 + knot) * n))) (patched (row base n knot) (λ (i : ℕ). listed X (kernels_at X knot zs) x knot (i - (base + knot * n))) xs) ≡ patched (either (row base n knot) (row base n (700 + knot))) (table_xy x y base n) xs
-knot-XY base n knot x y zs xs h l =
-    row-patched base n (700 + knot) (listed Y (kernels_at Y knot zs) y knot) (number_xy x y) (patched (row base n knot) (λ (i : ℕ). listed X (kernels_at X knot zs) x knot (i - (base + knot * n))) xs)
-    (λ (k : ℕ). listed-is Y zs y knot k l ∙ sym (number-Y x y knot k))
+pub knot_XY : (base n knot : ℕ) (x y zs xs : List Float) → knot < 700 → 20 ≤ length zs → patched (row base n (700 + knot)) (λ (i : ℕ). listed Y (kernels_at Y knot zs) y knot (i - (base + (700 + knot) * n))) (patched (row base n knot) (λ (i : ℕ). listed X (kernels_at X knot zs) x knot (i - (base + knot * n))) xs) ≡ patched (either (row base n knot) (row base n (700 + knot))) (table_xy x y base n) xs
+knot_XY base n knot x y zs xs h l =
+    row_patched base n (700 + knot) (listed Y (kernels_at Y knot zs) y knot) (number_xy x y) (patched (row base n knot) (λ (i : ℕ). listed X (kernels_at X knot zs) x knot (i - (base + knot * n))) xs)
+    (λ (k : ℕ). listed_is Y zs y knot k l ∙ sym (number_Y x y knot k))
     ∙ ap (patched (row base n (700 + knot)) (table_xy x y base n))
-    (row-patched base n knot (listed X (kernels_at X knot zs) x knot) (number_xy x y) xs (λ (k : ℕ). listed-is X zs x knot k l ∙ sym (number-X x y knot k h)))
-    ∙ patched-both (row base n (700 + knot)) (row base n knot) (table_xy x y base n) xs
+    (row_patched base n knot (listed X (kernels_at X knot zs) x knot) (number_xy x y) xs (λ (k : ℕ). listed_is X zs x knot k l ∙ sym (number_X x y knot k h)))
+    ∙ patched_both (row base n (700 + knot)) (row base n knot) (table_xy x y base n) xs
 
 -- the places written after some knots
 abbrev pub written_xy : ℕ → ℕ → ℕ → ℕ → Bool
 written_xy base n knot = either (within base (base + knot * n)) (within (base + 700 * n) (base + (700 + knot) * n))
 
 module _ (base n : ℕ) (F : ℕ → Float) (xs : List Float) where
-  pub written_xy-none : patched (written_xy base n 0) F xs ≡ xs
-  written_xy-none =
-      patched-none (written_xy base n 0) F xs
+  pub written_xy_none : patched (written_xy base n 0) F xs ≡ xs
+  written_xy_none =
+      patched_none (written_xy base n 0) F xs
       (λ (i : ℕ) (k : i < length xs).
-      rw (within-fails base (base + 0 * n) i (λ h l. omega arith), within-fails (base + 700 * n) (base + 700 * n) i (λ h l. omega arith)))
+      rw (within_fails base (base + 0 * n) i (λ h l. omega arith), within_fails (base + 700 * n) (base + 700 * n) i (λ h l. omega arith)))
 
-  pub written_xy-more : (knot : ℕ) → patched (either (row base n knot) (row base n (700 + knot))) F (patched (written_xy base n knot) F xs) ≡ patched (written_xy base n (knot + 1)) F xs
-  written_xy-more knot =
-      patched-both (either (row base n knot) (row base n (700 + knot))) (written_xy base n knot) F xs
-      ∙ patched-where (either (written_xy base n knot) (either (row base n knot) (row base n (700 + knot)))) (written_xy base n (knot + 1)) F xs
+  pub written_xy_more : (knot : ℕ) → patched (either (row base n knot) (row base n (700 + knot))) F (patched (written_xy base n knot) F xs) ≡ patched (written_xy base n (knot + 1)) F xs
+  written_xy_more knot =
+      patched_both (either (row base n knot) (row base n (700 + knot))) (written_xy base n knot) F xs
+      ∙ patched_where (either (written_xy base n knot) (either (row base n knot) (row base n (700 + knot)))) (written_xy base n (knot + 1)) F xs
       (λ (i : ℕ) (k : i < length xs).
       let e : 700 + (knot + 1) ≡ 700 + knot + 1 = omega arith in
       rw e
@@ -73,10 +73,10 @@ module _ (base n : ℕ) (F : ℕ → Float) (xs : List Float) where
       regroup false false true d = refl
       regroup false b false d = refl
 
-  pub written_xy-done : patched (written_xy base n 700) F xs ≡ patched (within base (base + 1400 * n)) F xs
-  written_xy-done =
-      patched-where (written_xy base n 700) (within base (base + 1400 * n)) F xs
-      (λ (i : ℕ) (k : i < length xs). within-join base (base + 700 * n) (base + 1400 * n) i (omega arith) (omega arith))
+  pub written_xy_done : patched (written_xy base n 700) F xs ≡ patched (within base (base + 1400 * n)) F xs
+  written_xy_done =
+      patched_where (written_xy base n 700) (within base (base + 1400 * n)) F xs
+      (λ (i : ℕ) (k : i < length xs). within_join base (base + 700 * n) (base + 1400 * n) i (omega arith) (omega arith))
 
 -- ---- Z
 
@@ -85,20 +85,20 @@ abbrev pub table_z : List Float → ℕ → ℕ → ℕ → Float
 table_z z base n i = knot_number Z z ((i - base) / n - 1400) ((i - base) % n)
 
 -- one knot's row of Z
-pub knot-Z : (base n knot : ℕ) (z zs xs : List Float) → 8 ≤ length zs → patched (row base n (1400 + knot)) (λ (i : ℕ). listed Z (kernels_at Z knot zs) z knot (i - (base + (1400 + knot) * n))) xs ≡ patched (row base n (1400 + knot)) (table_z z base n) xs
-knot-Z base n knot z zs xs l =
-    row-patched base n (1400 + knot) (listed Z (kernels_at Z knot zs) z knot) (λ (r k : ℕ). knot_number Z z (r - 1400) k) xs
-    (λ (k : ℕ). listed-is Z zs z knot k l ∙ ap (λ (r : ℕ). knot_number Z z r k) (omega arith))
+pub knot_Z : (base n knot : ℕ) (z zs xs : List Float) → 8 ≤ length zs → patched (row base n (1400 + knot)) (λ (i : ℕ). listed Z (kernels_at Z knot zs) z knot (i - (base + (1400 + knot) * n))) xs ≡ patched (row base n (1400 + knot)) (table_z z base n) xs
+knot_Z base n knot z zs xs l =
+    row_patched base n (1400 + knot) (listed Z (kernels_at Z knot zs) z knot) (λ (r k : ℕ). knot_number Z z (r - 1400) k) xs
+    (λ (k : ℕ). listed_is Z zs z knot k l ∙ ap (λ (r : ℕ). knot_number Z z r k) (omega arith))
 
 -- the places written after some knots
 abbrev pub written_z : ℕ → ℕ → ℕ → ℕ → Bool
 written_z base n knot = within (base + 1400 * n) (base + (1400 + knot) * n)
 
 module _ (base n : ℕ) (F : ℕ → Float) (xs : List Float) where
-  pub written_z-none : patched (written_z base n 0) F xs ≡ xs
-  written_z-none = within_none (base + 1400 * n) F xs
+  pub written_z_none : patched (written_z base n 0) F xs ≡ xs
+  written_z_none = within_none (base + 1400 * n) F xs
 
-  pub written_z-more : (knot : ℕ) → patched (row base n (1400 + knot)) F (patched (written_z base n knot) F xs) ≡ patched (written_z base n (knot + 1)) F xs
-  written_z-more knot =
+  pub written_z_more : (knot : ℕ) → patched (row base n (1400 + knot)) F (patched (written_z base n knot) F xs) ≡ patched (written_z base n (knot + 1)) F xs
+  written_z_more knot =
       let e : 1400 + (knot + 1) ≡ 1400 + knot + 1 = omega arith in
-      rw e (rows-patched base n (base + 1400 * n) (1400 + knot) F xs (omega arith))
+      rw e (rows_patched base n (base + 1400 * n) (1400 + knot) F xs (omega arith))

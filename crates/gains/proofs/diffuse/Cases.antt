@@ -13,13 +13,13 @@ module _ (d r : Float) where
   abbrev pub counts : Bool
   counts = (le (d ⊘ from_int (pos 4)) r || le (d ⊘ from_int (pos 4)) (dec 5 2)) && le threshold r
 
-  pub lambda-near : counts ≡ true → lambda_of d r ≡ from_int (pos 25) ⊗ d ⊗ d ⊗ d ⊘ (from_int (pos 4) ⊗ r)
+  pub lambda_near : counts ≡ true → lambda_of d r ≡ from_int (pos 25) ⊗ d ⊗ d ⊗ d ⊘ (from_int (pos 4) ⊗ r)
   unfolding lambda_of
-  lambda-near h = rw h
+  lambda_near h = rw h
 
-  pub lambda-far : counts ≡ false → lambda_of d r ≡ zero64
+  pub lambda_far : counts ≡ false → lambda_of d r ≡ zero64
   unfolding lambda_of
-  lambda-far h = rw h
+  lambda_far h = rw h
 
 -- ---- a channel near a wall
 module _ (inside product lambda e : Float) where

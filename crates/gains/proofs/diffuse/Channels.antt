@@ -8,27 +8,27 @@ use lib.Ieee.{Float}
 use lib.ListN.{get_or, drop, get_or-append}
 use lib.Seq.{get_or-drop, drop_at}
 use Rattle.gains.specs.Lookup.{channels}
-use Rattle.gains.proofs.lookup.Listing.{length-listed, get_or-listed}
+use Rattle.gains.proofs.lookup.Listing.{length_listed, get_or_listed}
 use Rattle.gains.proofs.lookup.Writing.{Written}
 
 -- functions that are equal below n
-pub channels-cong : (n : ℕ) (f g : ℕ → Float) → ((k : ℕ) → k < n → f k ≡ g k) → channels n f ≡ channels n g
-channels-cong zero f g h = refl
-channels-cong (suc n) f g h =
-    ap (λ (l : List Float). l ++ (f n ∷ [])) (channels-cong n f g (λ (k : ℕ) (l : k < n). h k (omega arith)))
+pub channels_cong : (n : ℕ) (f g : ℕ → Float) → ((k : ℕ) → k < n → f k ≡ g k) → channels n f ≡ channels n g
+channels_cong zero f g h = refl
+channels_cong (suc n) f g h =
+    ap (λ (l : List Float). l ++ (f n ∷ [])) (channels_cong n f g (λ (k : ℕ) (l : k < n). h k (omega arith)))
     ∙ ap (λ (x : Float). channels n g ++ (x ∷ [])) (h n (omega arith))
 
 -- the entry at k
-pub get_or-channels : (n : ℕ) (f : ℕ → Float) (rest : List Float) (k : ℕ) (d : Float) → k < n → get_or (channels n f ++ rest) k d ≡ f k
-get_or-channels n f rest k d h = get_or-append (channels n f) rest d k (rw (length-listed f n) h) ∙ get_or-listed f n k d h
+pub get_or_channels : (n : ℕ) (f : ℕ → Float) (rest : List Float) (k : ℕ) (d : Float) → k < n → get_or (channels n f ++ rest) k d ≡ f k
+get_or_channels n f rest k d h = get_or-append (channels n f) rest d k (rw (length_listed f n) h) ∙ get_or_listed f n k d h
 
 -- behind them
-pub drop-channels : (n : ℕ) (f : ℕ → Float) (rest : List Float) → drop n (channels n f ++ rest) ≡ rest
-drop-channels n f rest = drop_at (channels n f) rest n (length-listed f n)
+pub drop_channels : (n : ℕ) (f : ℕ → Float) (rest : List Float) → drop n (channels n f ++ rest) ≡ rest
+drop_channels n f rest = drop_at (channels n f) rest n (length_listed f n)
 
 -- where a loop writes next, the entry is as it was
-pub written-reads : (F : ℕ → Float) (old out : List Float) (k : ℕ) (d : Float) → Written F old out k → get_or out k d ≡ get_or old k d
-written-reads F old out k d w =
+pub written_reads : (F : ℕ → Float) (old out : List Float) (k : ℕ) (d : Float) → Written F old out k → get_or out k d ≡ get_or old k d
+written_reads F old out k d w =
     ap (λ (i : ℕ). get_or out i d) (sym (add-zero k))
     ∙ sym (get_or-drop k out 0 d)
     ∙ ap (λ (l : List Float). get_or l 0 d) w.rest

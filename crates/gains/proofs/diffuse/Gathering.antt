@@ -14,19 +14,19 @@ use Rattle.doubles.proofs.Exponents.{split}
 use Rattle.approximations.specs.Exp2.{exp2_of}
 use Rattle.approximations.specs.Log2.{log2_of}
 use Rattle.approximations.specs.Powers.{map_first}
-use Rattle.approximations.proofs.FirstMapped.{first-mapped}
+use Rattle.approximations.proofs.FirstMapped.{first_mapped}
 use Rattle.gains.specs.Lookup.{channels}
 use Rattle.gains.specs.Steps.Gathered.{above_before, Gathered, scattered}
-use Rattle.gains.proofs.diffuse.Channels.{channels-cong}
+use Rattle.gains.proofs.diffuse.Channels.{channels_cong}
 use Rattle.gains.proofs.diffuse.Steps.{power_of}
 
 module _ (fields : List Float) where
   abbrev above : ℕ → Bool
   above k = lt zero64 (get_or fields k nan)
 
-  pub above-none : 0 ≡ above_before fields 0
+  pub above_none : 0 ≡ above_before fields 0
   unfolding above_before
-  above-none = refl
+  above_none = refl
 
   -- one that is above 0 is counted after it
   next : (k : ℕ) → above k ≡ true → above_before fields (suc k) ≡ suc (above_before fields k)
@@ -52,11 +52,11 @@ module _ (fields : List Float) where
   above_most zero = unfold above_before in zero-le
   above_most (suc k) = let h = above_most k in let s = (step k).1 in omega arith
 
-  pub above-less : (j k : ℕ) → j < k → above j ≡ true → above_before fields j < above_before fields k
-  above-less j zero h t = absurd (omega arith)
-  above-less j (suc k) h t =
+  pub above_less : (j k : ℕ) → j < k → above j ≡ true → above_before fields j < above_before fields k
+  above_less j zero h t = absurd (omega arith)
+  above_less j (suc k) h t =
       ⊎_elim
-      (λ (l : j < k). let r = above-less j k l t in let s = (step k).0 in omega arith)
+      (λ (l : j < k). let r = above_less j k l t in let s = (step k).0 in omega arith)
       (λ (l : k ≤ j). let e : j ≡ k = omega arith in let n = next j t in subst (λ (i : ℕ). above_before fields j < above_before fields (suc i)) e (omega arith))
       (split j k)
 
@@ -65,8 +65,8 @@ module _ (fields : List Float) where
     pub gathered_none : (l : List Float) → Gathered f fields 0 l
     gathered_none l = record { at = λ k h t. absurd (omega arith) }
 
-    pub gathered-same : (k : ℕ) (l : List Float) → above k ≡ false → Gathered f fields k l → Gathered f fields (k + 1) l
-    gathered-same k l e g = record { at = find }
+    pub gathered_same : (k : ℕ) (l : List Float) → above k ≡ false → Gathered f fields k l → Gathered f fields (k + 1) l
+    gathered_same k l e g = record { at = find }
       where
         find : (j : ℕ) → j < k + 1 → above j ≡ true → get_or l (above_before fields j) nan ≡ f (get_or fields j nan)
         find j h t =
@@ -75,32 +75,32 @@ module _ (fields : List Float) where
             (λ (i : k ≤ j). let q : k ≡ j = omega arith in absurd (true≢false (sym t ∙ ap above (sym q) ∙ e)))
             (split j k)
 
-    pub gathered-more : (k m : ℕ) (l : List Float) (v : Float) → m ≡ above_before fields k → m < length l → v ≡ f (get_or fields k nan) → Gathered f fields k l → Gathered f fields (k + 1) (set l m v)
-    gathered-more k m l v c r e g = record { at = find }
+    pub gathered_more : (k m : ℕ) (l : List Float) (v : Float) → m ≡ above_before fields k → m < length l → v ≡ f (get_or fields k nan) → Gathered f fields k l → Gathered f fields (k + 1) (set l m v)
+    gathered_more k m l v c r e g = record { at = find }
       where
         find : (j : ℕ) → j < k + 1 → above j ≡ true → get_or (set l m v) (above_before fields j) nan ≡ f (get_or fields j nan)
         find j h t =
             ⊎_elim
-            (λ (i : j < k). let s = above-less j k i t in get_or-set_other l m (above_before fields j) v nan (λ q. absurd (omega arith)) ∙ g.at j i t)
+            (λ (i : j < k). let s = above_less j k i t in get_or-set_other l m (above_before fields j) v nan (λ q. absurd (omega arith)) ∙ g.at j i t)
             (λ (i : k ≤ j). let q : j ≡ k = omega arith in subst (λ (i : ℕ). get_or (set l m v) (above_before fields i) nan ≡ f (get_or fields i nan)) (sym q) (ap (λ (z : ℕ). get_or (set l m v) z nan) (sym c) ∙ get_or-set_same l m v nan r ∙ e))
             (split j k)
 
 -- ---- the powers of what was gathered, put back
-pub powers-back : (fields l p out : List Float) (n m : ℕ) (e : Float) → n ≤ length l → m ≡ above_before fields n → Gathered (λ (x : Float). log2_of x ⊘ e) fields n l → p ≡ map_first m exp2_of l
+pub powers_back : (fields l p out : List Float) (n m : ℕ) (e : Float) → n ≤ length l → m ≡ above_before fields n → Gathered (λ (x : Float). log2_of x ⊘ e) fields n l → p ≡ map_first m exp2_of l
     → out ≡ channels n (scattered fields p) ++ drop n fields → out ≡ channels n (λ (k : ℕ). power_of (get_or fields k nan) e) ++ drop n fields
-powers-back fields l p out n m e room c g q r =
-    r ∙ ap (λ (xs : List Float). xs ++ drop n fields) (channels-cong n (scattered fields p) (λ (k : ℕ). power_of (get_or fields k nan) e) (λ k h. one k h (lt zero64 (get_or fields k nan)) refl))
+powers_back fields l p out n m e room c g q r =
+    r ∙ ap (λ (xs : List Float). xs ++ drop n fields) (channels_cong n (scattered fields p) (λ (k : ℕ). power_of (get_or fields k nan) e) (λ k h. one k h (lt zero64 (get_or fields k nan)) refl))
   where
     one : (k : ℕ) → k < n → (b : Bool) → lt zero64 (get_or fields k nan) ≡ b → cond b (get_or p (above_before fields k) nan) zero64 ≡ cond b (exp2_of (log2_of (get_or fields k nan) ⊘ e)) zero64
     one k h false t = refl
     one k h true t =
-        let s = above-less fields k n h t in
+        let s = above_less fields k n h t in
         let i = above_most fields k in
-        ap (λ (z : List Float). get_or z (above_before fields k) nan) q ∙ first-mapped exp2_of m (above_before fields k) l nan (omega arith) (omega arith) ∙ ap exp2_of (g.at k h t)
+        ap (λ (z : List Float). get_or z (above_before fields k) nan) q ∙ first_mapped exp2_of m (above_before fields k) l nan (omega arith) (omega arith) ∙ ap exp2_of (g.at k h t)
 
 -- ---- what is put back, by the test
-pub scattered-some : (fields l : List Float) (k m : ℕ) → m ≡ above_before fields k → lt zero64 (get_or fields k nan) ≡ true → get_or l m nan ≡ scattered fields l k
-scattered-some fields l k m e t = rw (t, e)
+pub scattered_some : (fields l : List Float) (k m : ℕ) → m ≡ above_before fields k → lt zero64 (get_or fields k nan) ≡ true → get_or l m nan ≡ scattered fields l k
+scattered_some fields l k m e t = rw (t, e)
 
-pub scattered-none : (fields l : List Float) (k : ℕ) → lt zero64 (get_or fields k nan) ≡ false → zero64 ≡ scattered fields l k
-scattered-none fields l k t = rw t
+pub scattered_none : (fields l : List Float) (k : ℕ) → lt zero64 (get_or fields k nan) ≡ false → zero64 ≡ scattered fields l k
+scattered_none fields l k t = rw t

@@ -18,13 +18,13 @@ use Rattle.lists.specs.Lists.{zip_with}
 
 -- s: the sum, b: it is finite, r: its root
 module _ (v : List Float) (s : Float) (b : Bool) (e : s ≡ sum_squares v) (f : b ≡ finite s) where
-  pub normalized-yes : (r : Float) → b && lt zero64 s ≡ true → r ≡ sqrt_of binary64 s → map (λ (x : Float). x ⊘ r) v ≡ normalized_of v
+  pub normalized_yes : (r : Float) → b && lt zero64 s ≡ true → r ≡ sqrt_of binary64 s → map (λ (x : Float). x ⊘ r) v ≡ normalized_of v
   unfolding normalized_of
-  normalized-yes r h q = rw (← e, ← f, h, q)
+  normalized_yes r h q = rw (← e, ← f, h, q)
 
-  pub normalized-no : b && lt zero64 s ≡ false → map (λ (x : Float). zero64) v ≡ normalized_of v
+  pub normalized_no : b && lt zero64 s ≡ false → map (λ (x : Float). zero64) v ≡ normalized_of v
   unfolding normalized_of
-  normalized-no h = rw (← e, ← f, h)
+  normalized_no h = rw (← e, ← f, h)
 
 -- a number for each of two lists of one length
 pub same_number : (z : Float) (xs ys : List Float) → length xs ≡ length ys → map (λ (x : Float). z) xs ≡ map (λ (x : Float). z) ys
@@ -33,9 +33,9 @@ same_number z [] (y ∷ ys) h = absurd (omega arith)
 same_number z (x ∷ xs) [] h = absurd (omega arith)
 same_number z (x ∷ xs) (y ∷ ys) h = ap (λ (l : List Float). z ∷ l) (same_number z xs ys (omega arith))
 
-pub normalized-length : (v : List Float) → length (normalized_of v) ≡ length v
+pub normalized_length : (v : List Float) → length (normalized_of v) ≡ length v
 unfolding normalized_of
-normalized-length v = go (finite (sum_squares v) && lt zero64 (sum_squares v)) _ _
+normalized_length v = go (finite (sum_squares v) && lt zero64 (sum_squares v)) _ _
   where
     go : (b : Bool) (f g : Float → Float) → length (cond b (map f v) (map g v)) ≡ length v
     go true f g = length-map v f
@@ -47,14 +47,14 @@ written_then F n z base out h e = rw (e, take_at z (drop n base) n h, drop_at z 
 
 -- ---- the three blends
 module _ (w : Blend) (points field : List Float) where
-  pub blended-point : w ≡ Point → points ≡ blended w points field
+  pub blended_point : w ≡ Point → points ≡ blended w points field
   unfolding blended
-  blended-point e = rw e
+  blended_point e = rw e
 
-  pub blended-both : (a b : Float) → w ≡ Both a b → normalized_of (zip_with (λ (p d : Float). a ⊗ p ⊕ b ⊗ d) points field) ≡ blended w points field
+  pub blended_both : (a b : Float) → w ≡ Both a b → normalized_of (zip_with (λ (p d : Float). a ⊗ p ⊕ b ⊗ d) points field) ≡ blended w points field
   unfolding blended
-  blended-both a b e = rw e
+  blended_both a b e = rw e
 
-  pub blended-field : w ≡ Field → normalized_of (map (λ (d : Float). dec 5 1 ⊗ d) field) ≡ blended w points field
+  pub blended_field : w ≡ Field → normalized_of (map (λ (d : Float). dec 5 1 ⊗ d) field) ≡ blended w points field
   unfolding blended
-  blended-field e = rw e
+  blended_field e = rw e

@@ -15,10 +15,10 @@ abbrev pub field_of : List Float → ℕ → ℕ → Bool → Float → Centre �
 field_of store p n deep r c = normalized_of (channels n (λ (k : ℕ). diffuse_of (rows_in store p n k) deep (clamped_centre c) r))
 
 module _ (store : List Float) (p n : ℕ) (deep : Bool) (mean : ℕ) (r : Float) (c : Centre) (points gains : List Float) where
-  pub projected-yes : projectable (length store) p n (length points) (length gains) ≡ true → blended (blend_of mean r) (take n points) (field_of store p n deep r c) ++ drop n gains ≡ projected store p n deep mean r c points gains
+  pub projected_yes : projectable (length store) p n (length points) (length gains) ≡ true → blended (blend_of mean r) (take n points) (field_of store p n deep r c) ++ drop n gains ≡ projected store p n deep mean r c points gains
   unfolding projected gains_of
-  projected-yes h = rw h
+  projected_yes h = rw h
 
-  pub projected-no : projectable (length store) p n (length points) (length gains) ≡ false → gains ≡ projected store p n deep mean r c points gains
+  pub projected_no : projectable (length store) p n (length points) (length gains) ≡ false → gains ≡ projected store p n deep mean r c points gains
   unfolding projected
-  projected-no h = rw h
+  projected_no h = rw h

@@ -22,18 +22,18 @@ through x y z p q r P R h k =
     (lt_of_le_of_lt (le_of_eq (mul_right_comm y p r))
     (lt_of_lt_of_le (mul-lt-mul_of_pos_right k P) (le_of_eq (mul_right_comm z q p))))))
 
-pub below-trans : (x y z : Float) → T (plain x) → T (plain y) → lt x y ≡ true → lt y z ≡ true → lt x z ≡ true
+pub below_trans : (x y z : Float) → T (plain x) → T (plain y) → lt x y ≡ true → lt y z ≡ true → lt x z ≡ true
 unfolding lt
-below-trans nan y z p q h k = absurd p
-below-trans (inf s) y z p q h k = absurd p
-below-trans (fin true m e) y z p q h k = absurd p
-below-trans (fin false m e) nan z p q h k = absurd q
-below-trans (fin false m e) (inf t) z p q h k = absurd q
-below-trans (fin false m e) (fin true n d) z p q h k = absurd q
-below-trans (fin false m e) (fin false n d) nan p q h k = k
-below-trans (fin false m e) (fin false n d) (inf t) p q h k = k
-below-trans (fin false m e) (fin false n d) (fin true o g) p q h k = k
-below-trans (fin false m e) (fin false n d) (fin false o g) p q h k =
+below_trans nan y z p q h k = absurd p
+below_trans (inf s) y z p q h k = absurd p
+below_trans (fin true m e) y z p q h k = absurd p
+below_trans (fin false m e) nan z p q h k = absurd q
+below_trans (fin false m e) (inf t) z p q h k = absurd q
+below_trans (fin false m e) (fin true n d) z p q h k = absurd q
+below_trans (fin false m e) (fin false n d) nan p q h k = k
+below_trans (fin false m e) (fin false n d) (inf t) p q h k = k
+below_trans (fin false m e) (fin false n d) (fin true o g) p q h k = k
+below_trans (fin false m e) (fin false n d) (fin false o g) p q h k =
     lt-ltb (m * up e * down g) (o * up g * down e)
     (through (m * up e) (n * up d) (o * up g) (down e) (down d) (down g) (down_pos e) (down_pos g) (ltb-true _ _ h) (ltb-true _ _ k))
 
@@ -61,26 +61,26 @@ le_of_not_lt x y h k e = go (le y x) refl
     go false q = absurd (true≢false (sym (order.lt_of_not_le y x k h q) ∙ e))
 
 -- what is neither above zero nor at most zero is a NaN
-pub nan-of : (v : Float) → lt zero64 v ≡ false → le v zero64 ≡ false → v ≡ nan
-nan-of nan h k = refl
-nan-of (inf true) h k = unfold lt le eq in absurd (true≢false k)
-nan-of (inf false) h k = unfold lt in absurd (true≢false h)
-nan-of (fin s m e) h k = absurd (true≢false (sym (order.lt_of_not_le (fin s m e) zero64 tt tt k) ∙ h))
+pub nan_of : (v : Float) → lt zero64 v ≡ false → le v zero64 ≡ false → v ≡ nan
+nan_of nan h k = refl
+nan_of (inf true) h k = unfold lt le eq in absurd (true≢false k)
+nan_of (inf false) h k = unfold lt in absurd (true≢false h)
+nan_of (fin s m e) h k = absurd (true≢false (sym (order.lt_of_not_le (fin s m e) zero64 tt tt k) ∙ h))
 
 -- what lies above x, and not from y up, is finite with a clear sign
-pub between-plain : (x y v : Float) → T (plain x) → T (plain y) → lt x v ≡ true → le y v ≡ false → T (plain v)
+pub between_plain : (x y v : Float) → T (plain x) → T (plain y) → lt x v ≡ true → le y v ≡ false → T (plain v)
 unfolding lt le eq
-between-plain nan y v p q h k = absurd p
-between-plain (inf s) y v p q h k = absurd p
-between-plain (fin true m e) y v p q h k = absurd p
-between-plain (fin false m e) nan v p q h k = absurd q
-between-plain (fin false m e) (inf t) v p q h k = absurd q
-between-plain (fin false m e) (fin true n d) v p q h k = absurd q
-between-plain (fin false m e) (fin false n d) nan p q h k = absurd (true≢false (sym h))
-between-plain (fin false m e) (fin false n d) (inf true) p q h k = absurd (true≢false (sym h))
-between-plain (fin false m e) (fin false n d) (inf false) p q h k = absurd (true≢false k)
-between-plain (fin false m e) (fin false n d) (fin true o g) p q h k = absurd (true≢false (sym h))
-between-plain (fin false m e) (fin false n d) (fin false o g) p q h k = tt
+between_plain nan y v p q h k = absurd p
+between_plain (inf s) y v p q h k = absurd p
+between_plain (fin true m e) y v p q h k = absurd p
+between_plain (fin false m e) nan v p q h k = absurd q
+between_plain (fin false m e) (inf t) v p q h k = absurd q
+between_plain (fin false m e) (fin true n d) v p q h k = absurd q
+between_plain (fin false m e) (fin false n d) nan p q h k = absurd (true≢false (sym h))
+between_plain (fin false m e) (fin false n d) (inf true) p q h k = absurd (true≢false (sym h))
+between_plain (fin false m e) (fin false n d) (inf false) p q h k = absurd (true≢false k)
+between_plain (fin false m e) (fin false n d) (fin true o g) p q h k = absurd (true≢false (sym h))
+between_plain (fin false m e) (fin false n d) (fin false o g) p q h k = tt
 
 -- a test of a call's result is a test of what the call ensures
 pub lt_same : {x y : Float} {b : Bool} (v : Float) → x ≡ y → lt x v ≡ b → lt y v ≡ b
@@ -99,11 +99,11 @@ no_less (inf s) = refl
 no_less (fin s m e) = refl
 
 -- what is from x up is no NaN
-pub over-no-nan : (x y : Float) → le x y ≡ true → T (not (is_nan y))
+pub over_no_nan : (x y : Float) → le x y ≡ true → T (not (is_nan y))
 unfolding is_nan
-over-no-nan x nan h = absurd (true≢false (sym h ∙ no_less x))
-over-no-nan x (inf s) h = tt
-over-no-nan x (fin s m e) h = tt
+over_no_nan x nan h = absurd (true≢false (sym h ∙ no_less x))
+over_no_nan x (inf s) h = tt
+over_no_nan x (fin s m e) h = tt
 
 pub both : (a b : Bool) → (a && b) ≡ true → (a ≡ true) × (b ≡ true)
 both true b h = (refl, h)

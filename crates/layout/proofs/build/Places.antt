@@ -8,8 +8,8 @@ use native.Mathlib.Omega.{arith}
 use Rattle.layout.specs.Build.{put}
 
 module _ {A : Type 0} (l : List A) (i : ℕ) (x : A) (k : ℕ) (e : length l ≡ k) where
-  pub put-here : i < k → put l i x ≡ set l i x
-  put-here h = rw (lt-ltb i (length l) (omega arith))
+  pub put_here : i < k → put l i x ≡ set l i x
+  put_here h = rw (lt-ltb i (length l) (omega arith))
 
-  pub put-past : k ≤ i → put l i x ≡ l
-  put-past h = rw (le-ltb i (length l) (omega arith))
+  pub put_past : k ≤ i → put l i x ≡ l
+  put_past h = rw (le-ltb i (length l) (omega arith))

@@ -5,7 +5,7 @@ use native.Mathlib.Omega.{arith}
 use borrow.Author.Rules.{rules}
 use borrow.Author.Tests.{le-leb, lt-leb}
 use lib.ListN.{length, get_or}
-use Rattle.lists.proofs.Loops.{slice-more, slice-done}
+use Rattle.lists.proofs.Loops.{slice_more, slice_done}
 use Rattle.replay.proofs.Digits.{digit_lt}
 use Rattle.replay.specs.Hex.{hex_from}
 use Rattle.replay.proofs.hex.Goals as goal
@@ -25,7 +25,7 @@ returns-then-text-from c =
 pub loop-i-preserved : goal.loop-i-preserved
 loop-i-preserved c =
     let s = c.args in
-    let e = slice-more c.loop-i.i (s.from + 16) s.text.now 0 (omega arith) (omega arith) in
+    let e = slice_more c.loop-i.i (s.from + 16) s.text.now 0 (omega arith) (omega arith) in
     (omega arith, rw c.digit.ensures (rw e at c.loop-i.invariant.1))
 
 pub returns : goal.returns
@@ -33,7 +33,7 @@ returns c =
     let s = c.args in
     let h : s.from + 16 ≤ length s.text.now = omega arith in
     rw (le-leb (s.from + 16) (length s.text.now) h)
-    (ap (hex_from c.loop-i.n) (sym (slice-done c.loop-i.i (s.from + 16) s.text.now (omega arith))) ∙ c.loop-i.invariant.1)
+    (ap (hex_from c.loop-i.n) (sym (slice_done c.loop-i.i (s.from + 16) s.text.now (omega arith))) ∙ c.loop-i.invariant.1)
 
 pub loop-i-init : goal.loop-i-init
 loop-i-init c = (search rules, refl)

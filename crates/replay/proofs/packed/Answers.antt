@@ -6,7 +6,7 @@ use native.Mathlib.Omega.{arith}
 use borrow.Author.Tests.{le-leb, lt-leb}
 use lib.ListN.{length, get_or, take, drop_of_length-le}
 use lib.Seq.{slice, length-take-le}
-use Rattle.lists.proofs.Loops.{slice-more, slice-done}
+use Rattle.lists.proofs.Loops.{slice_more, slice_done}
 use Rattle.replay.specs.Hex.{packed_all}
 use Rattle.replay.proofs.packed.Goals as goal
 
@@ -15,7 +15,7 @@ none from to l k h = ap packed_all (sym (drop_of_length-le (take to l) {i = from
 
 more : (i to : ℕ) (l : List ℕ) (n : ℕ) → 0 < i → i ≤ to → to ≤ length l → n ≡ packed_all (slice i to l) → n % 2 ^ 56 * 256 + get_or l (i - 1) 0 ≡ packed_all (slice (i - 1) to l)
 more i to l n p h k e =
-    ap (λ (m : ℕ). m % 2 ^ 56 * 256 + get_or l (i - 1) 0) (e ∙ ap (λ (j : ℕ). packed_all (slice j to l)) (back i p)) ∙ ap packed_all (sym (slice-more (i - 1) to l 0 (omega arith) k))
+    ap (λ (m : ℕ). m % 2 ^ 56 * 256 + get_or l (i - 1) 0) (e ∙ ap (λ (j : ℕ). packed_all (slice j to l)) (back i p)) ∙ ap packed_all (sym (slice_more (i - 1) to l 0 (omega arith) k))
   where
     back : (i : ℕ) → 0 < i → i ≡ i - 1 + 1
     back i p = omega arith
@@ -31,7 +31,7 @@ returns-then-to-from c =
 pub loop-i-init : goal.loop-i-init
 loop-i-init c =
     let s = c.args in
-    (omega arith, omega arith, ap packed_all (sym (slice-done s.to s.to s.text.now refl)))
+    (omega arith, omega arith, ap packed_all (sym (slice_done s.to s.to s.text.now refl)))
 
 pub loop-i-preserved : goal.loop-i-preserved
 loop-i-preserved c =

@@ -3,7 +3,7 @@ use Prim.Native.Nat.{◌≤◌, ◌<◌}
 use native.Mathlib.Omega.{arith}
 use borrow.Author.Tests.{le-leb, lt-leb}
 use lib.ListN.{length, get_or}
-use Rattle.replay.proofs.Digits.{digit-small}
+use Rattle.replay.proofs.Digits.{digit_small}
 use Rattle.replay.proofs.three.Goals as goal
 
 pub returns-then-text-lt3 : goal.returns-then-text-lt3
@@ -13,16 +13,16 @@ returns-then-text-lt3 c =
     rw (lt-leb 3 (length s.text.now) h)
 
 pub overflow_mul-result : goal.overflow_mul-result
-overflow_mul-result c = omega (arith, digit-small (get_or c.args.text.now 0 0) c.digit.result c.digit.ensures)
+overflow_mul-result c = omega (arith, digit_small (get_or c.args.text.now 0 0) c.digit.result c.digit.ensures)
 
 pub overflow_mul-result-2 : goal.overflow_mul-result-2
-overflow_mul-result-2 c = omega (arith, digit-small (get_or c.args.text.now 1 0) c.digit-2.result c.digit-2.ensures)
+overflow_mul-result-2 c = omega (arith, digit_small (get_or c.args.text.now 1 0) c.digit-2.result c.digit-2.ensures)
 
 pub overflow_add-result : goal.overflow_add-result
-overflow_add-result c = omega (arith, digit-small (get_or c.args.text.now 0 0) c.digit.result c.digit.ensures, digit-small (get_or c.args.text.now 1 0) c.digit-2.result c.digit-2.ensures)
+overflow_add-result c = omega (arith, digit_small (get_or c.args.text.now 0 0) c.digit.result c.digit.ensures, digit_small (get_or c.args.text.now 1 0) c.digit-2.result c.digit-2.ensures)
 
 pub overflow_add-result-2 : goal.overflow_add-result-2
-overflow_add-result-2 c = omega (arith, digit-small (get_or c.args.text.now 0 0) c.digit.result c.digit.ensures, digit-small (get_or c.args.text.now 1 0) c.digit-2.result c.digit-2.ensures, digit-small (get_or c.args.text.now 2 0) c.digit-3.result c.digit-3.ensures)
+overflow_add-result-2 c = omega (arith, digit_small (get_or c.args.text.now 0 0) c.digit.result c.digit.ensures, digit_small (get_or c.args.text.now 1 0) c.digit-2.result c.digit-2.ensures, digit_small (get_or c.args.text.now 2 0) c.digit-3.result c.digit-3.ensures)
 
 pub returns : goal.returns
 returns c =

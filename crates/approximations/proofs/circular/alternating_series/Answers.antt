@@ -3,28 +3,28 @@ use Rattle.std.proofs.Common.{◌≡◌, ℕ, ◌-◌, length, drop, ap, ◌∙�
 use lib.Ieee.{of_bits}
 use Rattle.approximations.specs.Circular.{series}
 use Rattle.doubles.proofs.Floors.{casts}
-use Rattle.approximations.proofs.circular.Series.{series-last, series-step, entry-exact}
+use Rattle.approximations.proofs.circular.Series.{series_last, series_step, entry_exact}
 use Rattle.approximations.proofs.circular.alternating_series.Goals as goal
 
 pub int_to_float-r : goal.int_to_float-r
 int_to_float-r c =
     let ks = c.args.factorials.now in
-    casts _ (entry-exact ks c.requires.factorials_exact (length ks - 1))
+    casts _ (entry_exact ks c.requires.factorials_exact (length ks - 1))
 
 pub loop-i-init : goal.loop-i-init
 unfolding of_bits
 loop-i-init c =
     let ks = c.args.factorials.now in
-    (omega arith, series-last c.args.y ks (length ks - 1) (omega arith))
+    (omega arith, series_last c.args.y ks (length ks - 1) (omega arith))
 
 pub int_to_float-r-in-loop-i : goal.int_to_float-r-in-loop-i
 int_to_float-r-in-loop-i c =
-    casts _ (entry-exact c.args.factorials.now c.requires.factorials_exact (c.loop-i.i - 1))
+    casts _ (entry_exact c.args.factorials.now c.requires.factorials_exact (c.loop-i.i - 1))
 
 pub loop-i-preserved : goal.loop-i-preserved
 unfolding of_bits
 loop-i-preserved c =
-    (omega arith, series-step c.args.y c.args.factorials.now c.loop-i.i c.loop-i.r (omega arith) c.loop-i.invariant.0 c.loop-i.invariant.1)
+    (omega arith, series_step c.args.y c.args.factorials.now c.loop-i.i c.loop-i.r (omega arith) c.loop-i.invariant.0 c.loop-i.invariant.1)
 
 pub returns : goal.returns
 returns c =

@@ -4,17 +4,17 @@ use lib.Ieee.{Float, binary64, neg, of_bits, to_signed}
 use lib.Ieee.Casts.{to_signed_in}
 use mir.ValLaws.{to_z-of_z}
 use Rattle.doubles.specs.Floor.{floor_of}
-use Rattle.approximations.proofs.exp2.Ranges.{tested, out-is, casts, in_is, not-finite-is}
+use Rattle.approximations.proofs.exp2.Ranges.{tested, out_is, casts, in_is, not_finite_is}
 use Rattle.approximations.proofs.exp2.exp2_rest.Goals as goal
 
 pub returns-then-not-is_finite : goal.returns-then-not-is_finite
 unfolding of_bits
-returns-then-not-is_finite c = sym (not-finite-is c.args.value (sym c.is_finite.ensures ∙ c.if-not-is_finite.true))
+returns-then-not-is_finite c = sym (not_finite_is c.args.value (sym c.is_finite.ensures ∙ c.if-not-is_finite.true))
 
 pub returns-then-n : goal.returns-then-n
 unfolding of_bits neg
 returns-then-n c =
-    sym (out-is c.args.value (sym c.is_finite.ensures ∙ c.if-not-is_finite.false) (subst (λ (n : Float). tested n ≡ true) c.floor-n.ensures c.if-n.true))
+    sym (out_is c.args.value (sym c.is_finite.ensures ∙ c.if-not-is_finite.false) (subst (λ (n : Float). tested n ≡ true) c.floor-n.ensures c.if-n.true))
 
 pub truncating_f64_to_i64-requires : goal.truncating_f64_to_i64-requires
 unfolding neg of_bits

@@ -1,10 +1,10 @@
 -- `approximations::log2::log2_normal` meets its contract: the mantissa and the exponent from the pattern are those of the definition. Assumes nothing.
 use Rattle.std.proofs.Common.{◌≡◌, ℕ, suc, ◌/◌, ◌^◌, ◌<◌, T, pos, sym, ◌∙◌, subst, arith}
 use lib.Ieee.{Float, binary64, fits, to_bits}
-use Rattle.doubles.proofs.Exponents.{small-in-float}
-use Rattle.doubles.proofs.Magnitude.{plain-no-nan}
-use Rattle.approximations.proofs.log2.Mantissa.{is_normal, normal-plain, mantissa-no-nan}
-use Rattle.approximations.proofs.log2.Cases.{log2-by-bits}
+use Rattle.doubles.proofs.Exponents.{small_in_float}
+use Rattle.doubles.proofs.Magnitude.{plain_no_nan}
+use Rattle.approximations.proofs.log2.Mantissa.{is_normal, normal_plain, mantissa_no_nan}
+use Rattle.approximations.proofs.log2.Cases.{log2_by_bits}
 use Rattle.approximations.proofs.log2.log2_normal.Goals as goal
 
 abbrev v : goal.Start → Float
@@ -19,16 +19,16 @@ held c = subst T (sym c.well_formed.0.1) tt
 pub int_to_float-b : goal.int_to_float-b
 int_to_float-b c =
     let n = is_normal (v c.before) (held c.before) c.requires in
-    small-in-float (pos (b c.before / 2 ^ 52)) (room (b c.before / 2 ^ 52) n.0 n.1 n.2)
+    small_in_float (pos (b c.before / 2 ^ 52)) (room (b c.before / 2 ^ 52) n.0 n.1 n.2)
   where
     room : (f j : ℕ) → f ≡ suc j → j < 2045 → f < 2 ^ 12
     room f j e h = omega arith
 
 pub returns : goal.returns
-returns c = c.log2_of.ensures ∙ log2-by-bits (v c.before.before) (held c.before.before) c.requires
+returns c = c.log2_of.ensures ∙ log2_by_bits (v c.before.before) (held c.before.before) c.requires
 
 pub float_to_bits-b : goal.float_to_bits-b
-float_to_bits-b c = plain-no-nan (v c) (normal-plain (v c) c.requires)
+float_to_bits-b c = plain_no_nan (v c) (normal_plain (v c) c.requires)
 
 pub float_from_bits-mantissa : goal.float_from_bits-mantissa
-float_from_bits-mantissa c = mantissa-no-nan (b c)
+float_from_bits-mantissa c = mantissa_no_nan (b c)

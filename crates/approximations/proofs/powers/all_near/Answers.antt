@@ -2,7 +2,7 @@
 use Rattle.std.proofs.Common.{sym, refl, ◌∙◌, arith, rules}
 use lib.Ieee.{nan}
 use Rattle.approximations.specs.Powers.{in_exponents}
-use Rattle.approximations.proofs.FirstMapped.{each_more, each-done}
+use Rattle.approximations.proofs.FirstMapped.{each_more, each_done}
 use Rattle.approximations.proofs.powers.all_near.Goals as goal
 
 pub loop-i-preserved : goal.loop-i-preserved
@@ -13,7 +13,7 @@ loop-i-preserved c =
 pub returns : goal.returns
 returns c =
     let a = c.args in
-    sym (c.loop-i.invariant.1 ∙ each-done in_exponents c.loop-i.all c.loop-i.i a.n a.y.now (omega arith))
+    sym (c.loop-i.invariant.1 ∙ each_done in_exponents c.loop-i.all c.loop-i.i a.n a.y.now (omega arith))
 
 pub loop-i-init : goal.loop-i-init
 loop-i-init c = (search rules, refl)

@@ -4,7 +4,7 @@ use lib.Ieee.{Float, nan, fin, lt, le}
 use lib.Ieee.Fits.{and_l, and_r}
 use Rattle.approximations.specs.Exp2.{exp2_of}
 use Rattle.approximations.specs.Powers.{in_exponents}
-use Rattle.approximations.proofs.FirstMapped.{first-at, first_more, each_at}
+use Rattle.approximations.proofs.FirstMapped.{first_at, first_more, each_at}
 use Rattle.approximations.proofs.powers.exps_near.Goals as goal
 
 -- the bounds of `in_exponents`
@@ -20,14 +20,14 @@ exp2_near-requires c =
     let p : T (in_exponents (get_or a.y.now c.loop-i.i nan)) = each_at in_exponents a.n c.loop-i.i a.y.now nan c.requires.1 (omega arith) (omega arith) in
     let v = get_or a.y.now c.loop-i.i nan in
     record {
-      low_bound = rw (c.loop-i.invariant.1, first-at exp2_of c.loop-i.i a.y.now nan (omega arith)) (and_l (le low v) (lt v high) p);
-      high_bound = rw (c.loop-i.invariant.1, first-at exp2_of c.loop-i.i a.y.now nan (omega arith)) (and_r (le low v) (lt v high) p);
+      low_bound = rw (c.loop-i.invariant.1, first_at exp2_of c.loop-i.i a.y.now nan (omega arith)) (and_l (le low v) (lt v high) p);
+      high_bound = rw (c.loop-i.invariant.1, first_at exp2_of c.loop-i.i a.y.now nan (omega arith)) (and_r (le low v) (lt v high) p);
     }
 
 pub loop-i-preserved : goal.loop-i-preserved
 loop-i-preserved c =
     let a = c.args in
-    (omega arith, rw (c.exp2_near.ensures, c.loop-i.invariant.1, first-at exp2_of c.loop-i.i a.y.now nan (omega arith)) (first_more exp2_of c.loop-i.i a.y.now nan (omega arith)), simp length-set (search rules))
+    (omega arith, rw (c.exp2_near.ensures, c.loop-i.invariant.1, first_at exp2_of c.loop-i.i a.y.now nan (omega arith)) (first_more exp2_of c.loop-i.i a.y.now nan (omega arith)), simp length-set (search rules))
 
 pub returns : goal.returns
 returns c =

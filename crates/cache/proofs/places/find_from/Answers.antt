@@ -4,7 +4,7 @@ use mathlib.Core.Path.{refl, sym, ◌∙◌}
 use native.Mathlib.Nat.{mod-lt}
 use native.Mathlib.Omega.{arith}
 use borrow.Author.Rules.{rules}
-use Rattle.cache.proofs.KeyCompare.{finding-here, finding-next, finding-done}
+use Rattle.cache.proofs.KeyCompare.{finding_here, finding_next, finding_done}
 use Rattle.cache.proofs.places.find_from.Goals as goal
 
 pub loop-i-init : goal.loop-i-init
@@ -19,12 +19,12 @@ has_key-requires c =
 pub returns-then-has_key : goal.returns-then-has_key
 returns-then-has_key c =
     let v = c.loop-i in
-    finding-here _ _ _ _ _ v.invariant (omega arith) (sym c.has_key.ensures ∙ c.if-has_key.true)
+    finding_here _ _ _ _ _ v.invariant (omega arith) (sym c.has_key.ensures ∙ c.if-has_key.true)
 
 pub loop-i-preserved : goal.loop-i-preserved
 loop-i-preserved c =
     let v = c.loop-i in
-    finding-next _ _ _ _ _ v.invariant (omega arith) (sym c.has_key.ensures ∙ c.if-has_key.false)
+    finding_next _ _ _ _ _ v.invariant (omega arith) (sym c.has_key.ensures ∙ c.if-has_key.false)
 
 pub returns : goal.returns
-returns c = finding-done _ _ _ _ _ c.loop-i.invariant (omega arith)
+returns c = finding_done _ _ _ _ _ c.loop-i.invariant (omega arith)

@@ -1,15 +1,15 @@
 -- No bit differs so far, and the rests are equal, exactly where the whole is.
 use native.Mathlib.Omega.{arith}
-use Rattle.cache.proofs.KeyCompare.{compared-none, compared-more, compared-done}
+use Rattle.cache.proofs.KeyCompare.{compared_none, compared_more, compared_done}
 use Rattle.cache.proofs.places.is_key.Goals as goal
 
 pub loop-i-init : goal.loop-i-init
-loop-i-init c = compared-none _ _ _ c.requires.from_in_bounds c.requires.key_len
+loop-i-init c = compared_none _ _ _ c.requires.from_in_bounds c.requires.key_len
 
 pub loop-i-preserved : goal.loop-i-preserved
 loop-i-preserved c =
     let v = c.loop-i in
-    compared-more _ _ _ v.differ v.i v.invariant (omega arith)
+    compared_more _ _ _ v.differ v.i v.invariant (omega arith)
 
 pub returns : goal.returns
-returns c = compared-done _ _ _ _ _ c.loop-i.invariant (omega arith)
+returns c = compared_done _ _ _ _ _ c.loop-i.invariant (omega arith)

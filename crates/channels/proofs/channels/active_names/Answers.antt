@@ -6,9 +6,9 @@ use borrow.Author.Rules.{rules}
 use lib.ListN.{length, take, length-set, take-append-drop}
 use lib.Seq.{length-take-le}
 use Rattle.lists.proofs.Loops.{long}
-use Rattle.lists.proofs.Filter.{store, store-behind}
+use Rattle.lists.proofs.Filter.{store, store_behind}
 use Rattle.layout.specs.Channels.{active_names, active_count}
-use Rattle.layout.proofs.ActiveNames.{names-all, names-done, names-here, names-next}
+use Rattle.layout.proofs.ActiveNames.{names_all, names_done, names_here, names_next}
 use Rattle.channels.proofs.channels.active_names.Goals as goal
 use Rattle.channels.proofs.channels.active_names.Goals.{then-is_active, else-is_active}
 
@@ -16,15 +16,15 @@ pub loop-i-init : goal.loop-i-init
 loop-i-init c =
     let l = c.args.l in
     let k : length l.channels ≡ 24 = search (rules, long) in
-    (omega arith, omega arith, k, c.covered-used.ensures, search rules, names-all l c.covered-used.result k c.covered-used.ensures, refl)
+    (omega arith, omega arith, k, c.covered-used.ensures, search rules, names_all l c.covered-used.result k c.covered-used.ensures, refl)
 
 pub loop-i-preserved : goal.loop-i-preserved
 loop-i-preserved c =
     let v = c.loop-i in
     let l = c.args.l in
     let used = c.covered-used.result in
-    let e = names-here l used v.invariant.2 v.invariant.3 v.i (omega arith) in
-    let f = names-next l used v.invariant.2 v.invariant.3 v.i (omega arith) in
+    let e = names_here l used v.invariant.2 v.invariant.3 v.i (omega arith) in
+    let f = names_next l used v.invariant.2 v.invariant.3 v.i (omega arith) in
     elim c.if-is_active.branch [
       | then-is_active w ↦ rw (w.names-is, w.n-is) (
         omega arith,
@@ -33,7 +33,7 @@ loop-i-preserved c =
         omega arith,
         simp length-set v.invariant.4,
         store v.names v.n _ _ _ (omega arith) (rw (e (sym c.is_active.ensures ∙ w.if-is_active.true)) at v.invariant.5),
-        store-behind v.names v.n _ _ v.invariant.6,
+        store_behind v.names v.n _ _ v.invariant.6,
       )
       | else-is_active w ↦ rw (w.names-is, w.n-is) (
         omega arith,
@@ -50,7 +50,7 @@ pub returns : goal.returns
 returns c =
     let v = c.loop-i in
     let l = c.args.l in
-    let done = names-done l c.covered-used.result v.invariant.2 v.invariant.3 v.i (omega arith) in
+    let done = names_done l c.covered-used.result v.invariant.2 v.invariant.3 v.i (omega arith) in
     let front : take v.n v.names ≡ active_names l = rw (done, append-nil) at v.invariant.5 in
     let n : v.n ≡ active_count l = sym (length-take-le v.n v.names (omega arith)) ∙ ap length front in
     record {

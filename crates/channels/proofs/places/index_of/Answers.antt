@@ -5,9 +5,9 @@ use native.Mathlib.Nat.{zero-add}
 use native.Mathlib.Omega.{arith}
 use lib.ListN.{length, take}
 use Rattle.lists.specs.Lists.{index_of}
-use Rattle.lists.proofs.Loops.{slice-more, slice-done}
+use Rattle.lists.proofs.Loops.{slice_more, slice_done}
 use Rattle.lists.proofs.Takes.{take_min}
-use Rattle.lists.proofs.Tests.{place_here, place-next}
+use Rattle.lists.proofs.Tests.{place_here, place_next}
 use Rattle.channels.proofs.places.index_of.Goals as goal
 
 pub loop-i-init : goal.loop-i-init
@@ -20,16 +20,16 @@ loop-i-init c =
 pub returns-then-v-i : goal.returns-then-v-i
 returns-then-v-i c =
     let v = c.args.v.now in
-    let e = slice-more c.loop-i.i c.fewer-end.result v 0 (omega arith) (omega arith) in
+    let e = slice_more c.loop-i.i c.fewer-end.result v 0 (omega arith) (omega arith) in
     omega (arith, place_here _ _ _ e _ c.if-v-i.true)
 
 pub loop-i-preserved : goal.loop-i-preserved
 loop-i-preserved c =
     let v = c.args.v.now in
-    let e = slice-more c.loop-i.i c.fewer-end.result v 0 (omega arith) (omega arith) in
-    omega (arith, place-next _ _ _ e _ c.if-v-i.false)
+    let e = slice_more c.loop-i.i c.fewer-end.result v 0 (omega arith) (omega arith) in
+    omega (arith, place_next _ _ _ e _ c.if-v-i.false)
 
 pub returns : goal.returns
 returns c =
     let a = c.args in
-    omega (arith, ap (index_of a.w) (slice-done c.loop-i.i c.fewer-end.result a.v.now (omega arith)))
+    omega (arith, ap (index_of a.w) (slice_done c.loop-i.i c.fewer-end.result a.v.now (omega arith)))

@@ -1,7 +1,7 @@
 -- `doubles::power::pow2` meets its contract: each goal is a fact of `proofs/PowersOfTwo.antt`. Assumes nothing.
 use Rattle.std.proofs.Common.{ℕ, ◌<◌, sym, subst, lt_of_lt_of_le, lit≤}
 use lib.Ieee.{of_bits, nan_bits}
-use Rattle.doubles.proofs.PowersOfTwo.{Middle, Low, middle, low, middle-placed, low-placed, top, bottom}
+use Rattle.doubles.proofs.PowersOfTwo.{Middle, Low, middle, low, middle_placed, low_placed, top, bottom}
 use Rattle.doubles.proofs.power.pow2.Goals as goal
 
 pub returns-then-n-gt1023 : goal.returns-then-n-gt1023
@@ -19,10 +19,10 @@ sub : (c : goal.Then-n-geminus1074) → Low c.args.n
 sub c = low c.args.n c.ranges.n c.if-n-geminus1022.false c.if-n-geminus1074.true
 
 pub returns-then-n-geminus1022 : goal.returns-then-n-geminus1022
-returns-then-n-geminus1022 c = (middle-placed c.args.n (mid c)).1
+returns-then-n-geminus1022 c = (middle_placed c.args.n (mid c)).1
 
 pub returns-then-n-geminus1074 : goal.returns-then-n-geminus1074
-returns-then-n-geminus1074 c = (low-placed c.args.n (sub c)).1
+returns-then-n-geminus1074 c = (low_placed c.args.n (sub c)).1
 
 pub float_from_bits-result : goal.float_from_bits-result
 unfolding nan_bits
@@ -35,7 +35,7 @@ pub overflow_cast-result : goal.overflow_cast-result
 overflow_cast-result c = (mid c).2.1
 
 pub float_from_bits-result-then-n-geminus1022 : goal.float_from_bits-result-then-n-geminus1022
-float_from_bits-result-then-n-geminus1022 c = (middle-placed c.args.n (mid c)).0
+float_from_bits-result-then-n-geminus1022 c = (middle_placed c.args.n (mid c)).0
 
 pub overflow_add-result-then-n-geminus1074 : goal.overflow_add-result-then-n-geminus1074
 overflow_add-result-then-n-geminus1074 c = (sub c).2.0
@@ -47,4 +47,4 @@ pub overflow_shl-result-then-n-geminus1074 : goal.overflow_shl-result-then-n-gem
 overflow_shl-result-then-n-geminus1074 c = subst (λ (k : ℕ). k < 64) (sym (sub c).2.2) (lt_of_lt_of_le (sub c).1 (lit≤ tt))
 
 pub float_from_bits-result-then-n-geminus1074 : goal.float_from_bits-result-then-n-geminus1074
-float_from_bits-result-then-n-geminus1074 c = (low-placed c.args.n (sub c)).0
+float_from_bits-result-then-n-geminus1074 c = (low_placed c.args.n (sub c)).0

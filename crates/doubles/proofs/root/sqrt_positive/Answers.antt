@@ -4,8 +4,8 @@ use lib.Count.{count_leading_zeros, leading_le}
 use lib.Ieee.{Float, binary64, fits, to_bits}
 use Rattle.doubles.proofs.Magnitude.{mag, plain}
 use Rattle.doubles.proofs.Floors.{yes}
-use Rattle.doubles.proofs.Bound.{mag-pos}
-use Rattle.doubles.proofs.Squares.{Shape, Asked, Moved, digits53, shape, normal, subnormal, near_by, is_plain, over-no-nan}
+use Rattle.doubles.proofs.Bound.{mag_pos}
+use Rattle.doubles.proofs.Squares.{Shape, Asked, Moved, digits53, shape, normal, subnormal, near_by, is_plain, over_no_nan}
 use Rattle.doubles.proofs.root.sqrt_positive.Goals as goal
 
 abbrev x : goal.Start → Float
@@ -24,7 +24,7 @@ form : (c : goal.Start) → Shape (b c) (mag binary64 (x c))
 form c = shape (x c) (held c) (positive c)
 
 pub float_to_bits-b : goal.float_to_bits-b
-float_to_bits-b c = over-no-nan (x c) c.requires.positive
+float_to_bits-b c = over_no_nan (x c) c.requires.positive
 
 -- ---- a normal x
 high : (c : goal.Then-e-gt0) → Asked (digits53 (b c.before)) (b c.before / 2 ^ 52 + 1073) × (mag binary64 (x c.before) * 2 ^ 1074 ≡ digits53 (b c.before) * 2 ^ (b c.before / 2 ^ 52 + 1073))
@@ -56,7 +56,7 @@ rounded-requires c =
 
 -- ---- a subnormal x
 low : (c : goal.Else-e-gt0) → (mag binary64 (x c.before) ≡ b c.before) × Moved (b c.before) (count_leading_zeros 64 (b c.before))
-low c = subnormal (b c.before) (mag binary64 (x c.before)) (form c.before) (mag-pos binary64 (x c.before) (held c.before) (positive c.before) c.requires.positive) (none (b c.before / 2 ^ 52) c.if-e-gt0.false)
+low c = subnormal (b c.before) (mag binary64 (x c.before)) (form c.before) (mag_pos binary64 (x c.before) (held c.before) (positive c.before) c.requires.positive) (none (b c.before / 2 ^ 52) c.if-e-gt0.false)
   where
     none : (f : ℕ) → f ≤ 0 → f ≡ 0
     none f h = omega arith

@@ -1,7 +1,7 @@
 -- `doubles::whole::floor_near` meets its contract, by `proofs/NearestWhole.antt`. Assumes nothing.
 use lib.Ieee.{of_bits}
 use Rattle.doubles.proofs.Floors.{yes, no}
-use Rattle.doubles.proofs.NearestWhole.{floor-less, floor-itself, near-less, near_same}
+use Rattle.doubles.proofs.NearestWhole.{floor_less, floor_itself, near_less, near_same}
 use Rattle.doubles.proofs.whole.floor_near.Goals as goal
 
 pub returns-then-n-x : goal.returns-then-n-x
@@ -10,8 +10,8 @@ returns-then-n-x c =
     let x = c.args.x in
     let h = yes c.if-n-x.true in
     record {
-      value = floor-less x h;
-      near = λ p q. near-less x p q h;
+      value = floor_less x h;
+      near = λ p q. near_less x p q h;
     }
 
 pub returns-else-n-x : goal.returns-else-n-x
@@ -20,6 +20,6 @@ returns-else-n-x c =
     let x = c.args.x in
     let h = no c.if-n-x.false in
     record {
-      value = floor-itself x h;
+      value = floor_itself x h;
       near = λ p q. near_same x p q h;
     }

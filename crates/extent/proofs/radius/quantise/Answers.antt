@@ -7,7 +7,7 @@ use lib.Ieee.{round, of_int, of_bits}
 use Rattle.doubles.specs.Arithmetic.{zero64, one64}
 use Rattle.doubles.specs.Range.{is_between}
 use Rattle.extent.proofs.Tests.{yes}
-use Rattle.extent.proofs.radius.Nearest.{Shows, component-shows, quantised-in, quantised-out}
+use Rattle.extent.proofs.radius.Nearest.{Shows, component_shows, quantised_in, quantised_out}
 use Rattle.extent.proofs.radius.quantise.Goals as goal
 
 -- not left by the test: v is from 0 to 1
@@ -16,11 +16,11 @@ unfolding of_bits
 inside c = sym c.is_between.ensures ∙ c.if-not-is_between.false
 
 shows : (c : goal.Else-not-is_between) → Shows c.args.v
-shows c = component-shows c.args.v (subst T (sym c.well_formed.0.1) tt) (yes (inside c))
+shows c = component_shows c.args.v (subst T (sym c.well_formed.0.1) tt) (yes (inside c))
 
 pub returns-then-not-is_between : goal.returns-then-not-is_between
 unfolding of_bits
-returns-then-not-is_between c = sym (quantised-out c.args.v (sym c.is_between.ensures ∙ c.if-not-is_between.true))
+returns-then-not-is_between c = sym (quantised_out c.args.v (sym c.is_between.ensures ∙ c.if-not-is_between.true))
 
 pub float_to_bits-q : goal.float_to_bits-q
 unfolding of_bits round of_int
@@ -30,12 +30,12 @@ pub returns-then-q-lt32767 : goal.returns-then-q-lt32767
 unfolding of_bits round of_int
 returns-then-q-lt32767 c =
     let q = (shows c.before).1 in
-    let i = quantised-in c.args.v (inside c.before) in
+    let i = quantised_in c.args.v (inside c.before) in
     omega arith
 
 pub returns-else-q-lt32767 : goal.returns-else-q-lt32767
 unfolding of_bits round of_int
 returns-else-q-lt32767 c =
     let q = (shows c.before).1 in
-    let i = quantised-in c.args.v (inside c.before) in
+    let i = quantised_in c.args.v (inside c.before) in
     omega arith

@@ -3,13 +3,13 @@ use mathlib.Core.Path.{◌≡◌, refl}
 use native.Mathlib.Omega.{arith}
 use borrow.Author.Rules.{rules}
 use lib.ListN.{length-set}
-use Rattle.field.proofs.SameColumns.{firsts-none, firsts_more}
+use Rattle.field.proofs.SameColumns.{firsts_none, firsts_more}
 use Rattle.field.proofs.columns.first_columns.Goals as goal
 
 pub loop-k-init : goal.loop-k-init
 loop-k-init c =
     let a = c.args in
-    (search rules, firsts-none a.responses.now a.samples a.out.now, refl)
+    (search rules, firsts_none a.responses.now a.samples a.out.now, refl)
 
 pub loop-k-preserved : goal.loop-k-preserved
 loop-k-preserved c =

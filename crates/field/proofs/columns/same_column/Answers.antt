@@ -7,7 +7,7 @@ use borrow.Author.Rules.{rules}
 use borrow.Author.Tests.{eq-eqb, ne_eqb}
 use lib.Dec.{eqb}
 use Rattle.field.specs.Steps.Columns.{pattern_at}
-use Rattle.field.proofs.SameColumns.{same-done, same_more}
+use Rattle.field.proofs.SameColumns.{same_done, same_more}
 use Rattle.field.proofs.columns.same_column.Goals as goal
 
 pub returns-then-bits_of : goal.returns-then-bits_of
@@ -25,7 +25,7 @@ loop-s-preserved c =
 pub returns : goal.returns
 returns c =
     let a = c.args in
-    sym (c.loop-s.invariant.1 ∙ same-done a.responses.now a.j a.k c.loop-s.s a.samples (omega arith))
+    sym (c.loop-s.invariant.1 ∙ same_done a.responses.now a.j a.k c.loop-s.s a.samples (omega arith))
 
 pub loop-s-init : goal.loop-s-init
 loop-s-init c = (search rules, rw sub-zero refl)

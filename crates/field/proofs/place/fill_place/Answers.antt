@@ -11,7 +11,7 @@ use Rattle.layout.proofs.Sizes.{Sized}
 use Rattle.layout.proofs.QuestionsAccepted.{accepted}
 use Rattle.keys.specs.InKey.{layout_in, room_in}
 use Rattle.field.specs.Place.{filled}
-use Rattle.field.proofs.place.Refusal.{refused, granted, none-refuses, long-enough, among-eight}
+use Rattle.field.proofs.place.Refusal.{refused, granted, none_refuses, long_enough, among_eight}
 use Rattle.field.proofs.place.fill_place.Goals as goal
 
 pub returns-then-first_no-store : goal.returns-then-first_no-store
@@ -32,8 +32,8 @@ fill-requires c =
     let n = length a.store.now in
     let l = c.unpack.result in
     let z : Sized l = search (rules, long) in
-    let no = ap (λ (x : Layout). first_no (layout_questions x)) c.unpack.ensures ∙ sym c.first_no.ensures ∙ none-refuses r n a.p left in
-    (long-enough r n a.p left, among-eight r n a.p left, accepted l z.channels z.layers z.rows z.anchors no)
+    let no = ap (λ (x : Layout). first_no (layout_questions x)) c.unpack.ensures ∙ sym c.first_no.ensures ∙ none_refuses r n a.p left in
+    (long_enough r n a.p left, among_eight r n a.p left, accepted l z.channels z.layers z.rows z.anchors no)
 
 pub returns : goal.returns
 returns c =

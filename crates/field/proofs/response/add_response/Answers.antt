@@ -10,11 +10,11 @@ use lib.Seq.{slice}
 use Rattle.field.specs.declared.Pick.{Pick}
 use Rattle.field.specs.Responses.{pick_of}
 use Rattle.field.specs.Steps.Flat.{shifted, group_pick}
-use Rattle.field.proofs.response.Runs.{response-none, response-more, group-within, group-first, group-last, group-parted}
+use Rattle.field.proofs.response.Runs.{response_none, response_more, group_within, group_first, group_last, group_parted}
 use Rattle.field.proofs.response.add_response.Goals as goal
 
 pub loop-g-init : goal.loop-g-init
-loop-g-init c = (search rules, sym (response-none _ _ _ _ _ _ _), refl)
+loop-g-init c = (search rules, sym (response_none _ _ _ _ _ _ _), refl)
 
 pub neighbours-requires : goal.neighbours-requires
 neighbours-requires c =
@@ -23,11 +23,11 @@ neighbours-requires c =
     let g = c.loop-g.g in
     let h = c.loop-g-test.true in
     record {
-      part_in_bounds = (k.some g h, group-within a.at.now a.parts.now a.v.now a.groups.now a.count a.u c.requires.base_in_bounds.1 k g h);
+      part_in_bounds = (k.some g h, group_within a.at.now a.parts.now a.v.now a.groups.now a.count a.u c.requires.base_in_bounds.1 k g h);
       ends_finite = (
         c.requires.base_in_bounds.1,
-        group-first a.at.now a.parts.now a.v.now a.groups.now a.count a.u c.requires.base_in_bounds.1 k g h,
-        group-last a.at.now a.parts.now a.v.now a.groups.now a.count a.u c.requires.base_in_bounds.1 k g h,
+        group_first a.at.now a.parts.now a.v.now a.groups.now a.count a.u c.requires.base_in_bounds.1 k g h,
+        group_last a.at.now a.parts.now a.v.now a.groups.now a.count a.u c.requires.base_in_bounds.1 k g h,
       );
     }
 
@@ -40,7 +40,7 @@ pub add_pick-requires : goal.add_pick-requires
 add_pick-requires c =
     let a = c.args in (
       omega (arith, c.loop-g.invariant.2, c.requires.base_in_bounds.0),
-      rw (picked c.args.v.now c.args.groups.now c.args.u c.loop-g.g _ c.neighbours.ensures) (group-parted a.at.now a.parts.now a.v.now a.groups.now a.count a.u c.requires.base_in_bounds.1 c.requires.grouped.0 c.loop-g.g c.loop-g-test.true c.requires.grouped.1),
+      rw (picked c.args.v.now c.args.groups.now c.args.u c.loop-g.g _ c.neighbours.ensures) (group_parted a.at.now a.parts.now a.v.now a.groups.now a.count a.u c.requires.base_in_bounds.1 c.requires.grouped.0 c.loop-g.g c.loop-g-test.true c.requires.grouped.1),
     )
 
 pub loop-g-preserved : goal.loop-g-preserved
@@ -48,7 +48,7 @@ loop-g-preserved c =
     let a = c.args in (
       omega arith,
       c.add_pick.ensures
-          ∙ rw (picked c.args.v.now c.args.groups.now c.args.u c.loop-g.g _ c.neighbours.ensures, c.loop-g.invariant.1) (sym (response-more a.at.now a.parts.now a.v.now a.groups.now a.base a.u a.out.now c.loop-g.g)),
+          ∙ rw (picked c.args.v.now c.args.groups.now c.args.u c.loop-g.g _ c.neighbours.ensures, c.loop-g.invariant.1) (sym (response_more a.at.now a.parts.now a.v.now a.groups.now a.base a.u a.out.now c.loop-g.g)),
       c.add_pick.auto.out ∙ c.loop-g.invariant.2,
     )
 

@@ -3,7 +3,7 @@ use mathlib.Core.Path.{refl, sym, ◌∙◌}
 use native.Mathlib.Omega.{arith}
 use borrow.Author.Rules.{rules}
 use lib.ListN.{length-set}
-use Rattle.field.proofs.response.Slices.{slice-past, added_more, added_none}
+use Rattle.field.proofs.response.Slices.{slice_past, added_more, added_none}
 use Rattle.field.proofs.response.add_weight.Goals as goal
 
 pub loop-i-init : goal.loop-i-init
@@ -32,4 +32,4 @@ loop-i-preserved c =
 pub returns : goal.returns
 returns c =
     let g = c.args in
-    sym (added_none g.base g.w c.loop-i.out) ∙ (rw (slice-past c.loop-i.i g.b g.at.now c.loop-i-test.false) at c.loop-i.invariant.0)
+    sym (added_none g.base g.w c.loop-i.out) ∙ (rw (slice_past c.loop-i.i g.b g.at.now c.loop-i-test.false) at c.loop-i.invariant.0)

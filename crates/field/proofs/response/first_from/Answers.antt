@@ -3,7 +3,7 @@ use mathlib.Core.Path.{◌≡◌, refl, sym, ◌∙◌}
 use native.Mathlib.Nat.{add-zero}
 use native.Mathlib.Omega.{arith}
 use borrow.Author.Rules.{rules}
-use Rattle.field.proofs.response.Slices.{slice-past, below_more, below-found}
+use Rattle.field.proofs.response.Slices.{slice_past, below_more, below_found}
 use Rattle.field.proofs.response.first_from.Goals as goal
 
 pub loop-i-init : goal.loop-i-init
@@ -12,7 +12,7 @@ loop-i-init c = (search rules, refl)
 pub returns-then-not-v-i : goal.returns-then-not-v-i
 returns-then-not-v-i c =
     let g = c.args in
-    below-found g.u g.v.now g.a c.loop-i.i g.b (search rules) (search rules) c.loop-i.invariant.1 c.if-not-v-i.true
+    below_found g.u g.v.now g.a c.loop-i.i g.b (search rules) (search rules) c.loop-i.invariant.1 c.if-not-v-i.true
 
 pub loop-i-preserved : goal.loop-i-preserved
 loop-i-preserved c =
@@ -23,4 +23,4 @@ pub returns : goal.returns
 returns c =
     let g = c.args in
     let e : c.loop-i.i ≡ g.b = omega arith in
-    sym e ∙ sym (add-zero c.loop-i.i) ∙ (rw (slice-past c.loop-i.i g.b g.v.now c.loop-i-test.false) at c.loop-i.invariant.1)
+    sym e ∙ sym (add-zero c.loop-i.i) ∙ (rw (slice_past c.loop-i.i g.b g.v.now c.loop-i-test.false) at c.loop-i.invariant.1)

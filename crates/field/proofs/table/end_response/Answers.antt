@@ -5,18 +5,18 @@ use native.Mathlib.Omega.{arith}
 use borrow.Author.Rules.{rules}
 use lib.Ieee.{nan}
 use lib.ListN.{get_or, length-set}
-use Rattle.field.proofs.Patching.{write-none, write-more}
+use Rattle.field.proofs.Patching.{write_none, write_more}
 use Rattle.field.proofs.table.end_response.Goals as goal
 
 pub loop-k-init : goal.loop-k-init
 loop-k-init c =
     let a = c.args in
-    (search rules, sym (write-none a.from (λ (k : ℕ). get_or a.responses.now (a.sample * 24 + k) nan) a.store.now), refl)
+    (search rules, sym (write_none a.from (λ (k : ℕ). get_or a.responses.now (a.sample * 24 + k) nan) a.store.now), refl)
 
 pub loop-k-preserved : goal.loop-k-preserved
 loop-k-preserved c =
     let a = c.args in
-    (omega arith, rw c.loop-k.invariant.1 (write-more a.from c.loop-k.k (λ (k : ℕ). get_or a.responses.now (a.sample * 24 + k) nan) a.store.now), simp length-set (search rules))
+    (omega arith, rw c.loop-k.invariant.1 (write_more a.from c.loop-k.k (λ (k : ℕ). get_or a.responses.now (a.sample * 24 + k) nan) a.store.now), simp length-set (search rules))
 
 pub returns : goal.returns
 returns c =

@@ -4,18 +4,18 @@ use Prim.Native.Nat.{ℕ}
 use native.Mathlib.Omega.{arith}
 use borrow.Author.Rules.{rules}
 use Rattle.field.specs.Patched.{patched}
-use Rattle.field.proofs.table.KnotRows.{table_z, written_z, written_z-none, written_z-more}
+use Rattle.field.proofs.table.KnotRows.{table_z, written_z, written_z_none, written_z_more}
 use Rattle.field.proofs.table.knots_z.Goals as goal
 
 pub loop-knot-init : goal.loop-knot-init
 loop-knot-init c =
     let a = c.args in
-    (search rules, sym (written_z-none a.base a.n (table_z a.z.now a.base a.n) a.store.now), refl)
+    (search rules, sym (written_z_none a.base a.n (table_z a.z.now a.base a.n) a.store.now), refl)
 
 pub loop-knot-preserved : goal.loop-knot-preserved
 loop-knot-preserved c =
     let a = c.args in
-    (omega arith, rw (c.knot_z.ensures, c.loop-knot.invariant.1) (written_z-more a.base a.n (table_z a.z.now a.base a.n) a.store.now c.loop-knot.knot), omega arith)
+    (omega arith, rw (c.knot_z.ensures, c.loop-knot.invariant.1) (written_z_more a.base a.n (table_z a.z.now a.base a.n) a.store.now c.loop-knot.knot), omega arith)
 
 pub returns : goal.returns
 returns c =

@@ -2,7 +2,7 @@
 use mathlib.Core.Path.{◌≡◌, refl}
 use native.Mathlib.Omega.{arith}
 use borrow.Author.Rules.{rules}
-use Rattle.gains.proofs.lookup.Writing.{written_none, written-more, written-done}
+use Rattle.gains.proofs.lookup.Writing.{written_none, written_more, written_done}
 use Rattle.gains.proofs.diffuse.interior.Goals as goal
 
 pub loop-k-init : goal.loop-k-init
@@ -10,9 +10,9 @@ loop-k-init c = (omega arith, search rules, written_none _ _)
 
 pub loop-k-preserved : goal.loop-k-preserved
 loop-k-preserved c =
-    (omega arith, c.loop-k.invariant.1, written-more _ _ _ _ _ (omega arith) refl c.loop-k.invariant.2)
+    (omega arith, c.loop-k.invariant.1, written_more _ _ _ _ _ (omega arith) refl c.loop-k.invariant.2)
 
 pub returns : goal.returns
 returns c =
     let e : c.loop-k.k ≡ c.args.n = omega arith in
-    rw (← e) (written-done _ _ _ _ c.loop-k.invariant.2)
+    rw (← e) (written_done _ _ _ _ c.loop-k.invariant.2)

@@ -4,14 +4,14 @@ use native.Mathlib.Omega.{arith}
 use borrow.Author.Rules.{rules}
 use lib.Ieee.{nan, lt, of_bits}
 use Rattle.doubles.specs.Arithmetic.{zero64}
-use Rattle.gains.proofs.lookup.Writing.{written_none, written-more, written-done}
-use Rattle.gains.proofs.diffuse.Channels.{written-reads}
-use Rattle.gains.proofs.diffuse.Gathering.{above-none, above_more, above_same, scattered-some, scattered-none}
+use Rattle.gains.proofs.lookup.Writing.{written_none, written_more, written_done}
+use Rattle.gains.proofs.diffuse.Channels.{written_reads}
+use Rattle.gains.proofs.diffuse.Gathering.{above_none, above_more, above_same, scattered_some, scattered_none}
 use Rattle.gains.proofs.diffuse.scatter.Goals as goal
 use Rattle.gains.proofs.diffuse.scatter.Goals.{then-values-k, else-values-k}
 
 pub loop-k-init : goal.loop-k-init
-loop-k-init c = (omega arith, omega arith, above-none _, search rules, written_none _ _)
+loop-k-init c = (omega arith, omega arith, above_none _, search rules, written_none _ _)
 
 pub loop-k-preserved : goal.loop-k-preserved
 unfolding of_bits
@@ -19,7 +19,7 @@ loop-k-preserved c =
     let a = c.args in
     let k = c.loop-k.k in
     let i = c.loop-k.invariant in
-    let same = written-reads _ _ _ k nan i.4 in
+    let same = written_reads _ _ _ k nan i.4 in
     elim c.if-values-k.branch [
       | then-values-k w ↦
           let t = ap (lt zero64) (sym same) ∙ w.if-values-k.true in (
@@ -27,7 +27,7 @@ loop-k-preserved c =
             rw w.m-is (omega arith),
             rw w.m-is (above_more _ k c.loop-k.m i.2 t),
             i.3,
-            rw w.values-is (written-more _ _ _ _ _ (omega arith) (scattered-some a.out.now a.gathered.now k c.loop-k.m i.2 t) i.4),
+            rw w.values-is (written_more _ _ _ _ _ (omega arith) (scattered_some a.out.now a.gathered.now k c.loop-k.m i.2 t) i.4),
           )
       | else-values-k w ↦
           let t = ap (lt zero64) (sym same) ∙ w.if-values-k.false in (
@@ -35,11 +35,11 @@ loop-k-preserved c =
             rw w.m-is (omega arith),
             rw w.m-is (above_same _ k c.loop-k.m i.2 t),
             i.3,
-            rw w.values-is (written-more _ _ _ _ _ (omega arith) (scattered-none a.out.now a.gathered.now k t) i.4),
+            rw w.values-is (written_more _ _ _ _ _ (omega arith) (scattered_none a.out.now a.gathered.now k t) i.4),
           )
     ]
 
 pub returns : goal.returns
 returns c =
     let e : c.loop-k.k ≡ c.args.n = omega arith in
-    rw (← e) (written-done _ _ _ _ c.loop-k.invariant.4)
+    rw (← e) (written_done _ _ _ _ c.loop-k.invariant.4)

@@ -2,7 +2,7 @@
 use native.Mathlib.Omega.{arith}
 use lib.Ieee.{Float, of_bits, round}
 use Rattle.doubles.specs.Arithmetic.{◌⊗◌, dec}
-use Rattle.gains.proofs.gains.Front.{map-none, map_more, replace-done}
+use Rattle.gains.proofs.gains.Front.{map_none, map_more, replace_done}
 use Rattle.gains.proofs.gains.halve.Goals as goal
 
 pub loop-k-preserved : goal.loop-k-preserved
@@ -12,7 +12,7 @@ loop-k-preserved c =
     map_more (λ (d : Float). dec 5 1 ⊗ d) a.n a.v.now c.loop-k.v c.loop-k.k c.loop-k.invariant (omega arith)
 
 pub loop-k-init : goal.loop-k-init
-loop-k-init c = map-none _ _ _ c.requires
+loop-k-init c = map_none _ _ _ c.requires
 
 pub returns : goal.returns
-returns c = replace-done _ _ _ _ _ c.loop-k.invariant (omega arith)
+returns c = replace_done _ _ _ _ _ c.loop-k.invariant (omega arith)

@@ -5,7 +5,7 @@ use lib.Ieee.{Float, of_bits}
 use lib.ListN.{take, drop}
 use lib.Seq.{length-take-le}
 use Rattle.doubles.specs.Arithmetic.{zero64}
-use Rattle.gains.proofs.gains.Normal.{normalized-yes, normalized-no, same_number}
+use Rattle.gains.proofs.gains.Normal.{normalized_yes, normalized_no, same_number}
 use Rattle.gains.proofs.gains.normalize_into.Goals as goal
 
 pub returns-then-is_finite-sum : goal.returns-then-is_finite-sum
@@ -13,7 +13,7 @@ unfolding of_bits
 returns-then-is_finite-sum c =
     let a = c.args in
     c.divide_into.ensures
-    ∙ ap (λ (xs : List Float). xs ++ drop a.n a.out.now) (normalized-yes (take a.n a.v.now) _ _ c.sum_squares-sum.ensures c.is_finite.ensures _ c.if-is_finite-sum.true c.sqrt.ensures.value)
+    ∙ ap (λ (xs : List Float). xs ++ drop a.n a.out.now) (normalized_yes (take a.n a.v.now) _ _ c.sum_squares-sum.ensures c.is_finite.ensures _ c.if-is_finite-sum.true c.sqrt.ensures.value)
 
 pub returns-else-is_finite-sum : goal.returns-else-is_finite-sum
 unfolding of_bits
@@ -24,4 +24,4 @@ returns-else-is_finite-sum c =
     ∙ ap
     (λ (xs : List Float). xs ++ drop a.n a.out.now)
     (same_number zero64 (take a.n a.out.now) (take a.n a.v.now) (length-take-le _ _ p.0 ∙ sym (length-take-le _ _ p.1))
-    ∙ normalized-no (take a.n a.v.now) _ _ c.sum_squares-sum.ensures c.is_finite.ensures c.if-is_finite-sum.false)
+    ∙ normalized_no (take a.n a.v.now) _ _ c.sum_squares-sum.ensures c.is_finite.ensures c.if-is_finite-sum.false)

@@ -6,10 +6,10 @@ use lib.Ieee.{Float}
 use lib.ListN.{length, take, drop}
 use Rattle.gains.specs.declared.Blend.{Blend}
 use Rattle.gains.specs.Gains.{blended, blend_of}
-use Rattle.gains.proofs.lookup.Listing.{length-listed}
+use Rattle.gains.proofs.lookup.Listing.{length_listed}
 use Rattle.gains.proofs.gains.Asks.{asked}
-use Rattle.gains.proofs.gains.Normal.{written_then, normalized-length, blended-point}
-use Rattle.gains.proofs.gains.Outcome.{field_of, projected-yes, projected-no}
+use Rattle.gains.proofs.gains.Normal.{written_then, normalized_length, blended_point}
+use Rattle.gains.proofs.gains.Outcome.{field_of, projected_yes, projected_no}
 use Rattle.gains.proofs.gains.project.Goals as goal
 
 pub returns-then-not-is_projectable : goal.returns-then-not-is_projectable
@@ -18,7 +18,7 @@ returns-then-not-is_projectable c =
     let e = sym c.is_projectable.ensures ∙ c.if-not-is_projectable.true in
     record {
       value = sym e;
-      gains_after = projected-no a.store.now a.p a.n a.deep a.mean a.radius a.c a.points.now a.gains.now e;
+      gains_after = projected_no a.store.now a.p a.n a.deep a.mean a.radius a.c a.points.now a.gains.now e;
     }
 
 pub copy-requires : goal.copy-requires
@@ -51,8 +51,8 @@ returns-in-Point c =
     record {
       value = sym e;
       gains_after = c.copy.ensures
-          ∙ ap (λ (xs : List Float). xs ++ drop a.n a.gains.now) (blended-point (blend_of a.mean a.radius) ps _ w)
-          ∙ projected-yes a.store.now a.p a.n a.deep a.mean a.radius a.c a.points.now a.gains.now e;
+          ∙ ap (λ (xs : List Float). xs ++ drop a.n a.gains.now) (blended_point (blend_of a.mean a.radius) ps _ w)
+          ∙ projected_yes a.store.now a.p a.n a.deep a.mean a.radius a.c a.points.now a.gains.now e;
     }
 
 pub returns-in_default : goal.returns-in_default
@@ -63,11 +63,11 @@ returns-in_default c =
     let g = a.gains.now in
     let ps = take n a.points.now in
     let field = field_of a.store.now a.p n a.deep a.radius a.c in
-    let long : length field ≡ n = normalized-length _ ∙ length-listed _ n in
+    let long : length field ≡ n = normalized_length _ ∙ length_listed _ n in
     record {
       value = sym e;
       gains_after = c.mix.ensures
           ∙ written_then (blended c.blend_of-blend.result ps) n field g _ long c.field_gains.ensures
           ∙ ap (λ (w : Blend). blended w ps field ++ drop n g) c.blend_of-blend.ensures
-          ∙ projected-yes a.store.now a.p n a.deep a.mean a.radius a.c a.points.now g e;
+          ∙ projected_yes a.store.now a.p n a.deep a.mean a.radius a.c a.points.now g e;
     }

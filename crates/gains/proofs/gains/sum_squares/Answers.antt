@@ -6,12 +6,12 @@ use lib.Ieee.{binary64, nan, of_bits}
 use lib.ListN.{take}
 use Rattle.doubles.specs.Arithmetic.{zero64}
 use Rattle.doubles.specs.Norm.{sum_squares}
-use Rattle.gains.proofs.gains.Front.{fold-none, fold_more}
+use Rattle.gains.proofs.gains.Front.{fold_none, fold_more}
 use Rattle.gains.proofs.gains.sum_squares.Goals as goal
 
 pub loop-k-init : goal.loop-k-init
 unfolding of_bits
-loop-k-init c = (omega arith, fold-none binary64 zero64)
+loop-k-init c = (omega arith, fold_none binary64 zero64)
 
 pub loop-k-preserved : goal.loop-k-preserved
 loop-k-preserved c =

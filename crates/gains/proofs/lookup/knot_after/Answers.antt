@@ -4,7 +4,7 @@ use mathlib.Core.Path.{◌≡◌}
 use native.Mathlib.Omega.{arith}
 use borrow.Author.Tests.{not-true}
 use Rattle.gains.proofs.lookup.Comparing.{lt_same, both}
-use Rattle.gains.proofs.lookup.Rising.{centre-bounds}
+use Rattle.gains.proofs.lookup.Rising.{centre_bounds}
 use Rattle.gains.proofs.lookup.knot_after.Goals as goal
 
 pub returns-then-centre_knot-value : goal.returns-then-centre_knot-value
@@ -20,16 +20,16 @@ returns-then-centre_knot-value c =
     }
 
 pub below_near-requires : goal.below_near-requires
-below_near-requires c = (omega arith, (centre-bounds c.args.last c.requires.1).1, c.requires.2)
+below_near-requires c = (omega arith, (centre_bounds c.args.last c.requires.1).1, c.requires.2)
 
 pub first_step-requires : goal.first_step-requires
 first_step-requires c =
     let b = c.below_near.result in
     let e : b + 1 - 1 ≡ b = omega arith in
-    (omega arith, omega arith, (centre-bounds c.args.last c.requires.1).1, rw e c.below_near.ensures.1)
+    (omega arith, omega arith, (centre_bounds c.args.last c.requires.1).1, rw e c.below_near.ensures.1)
 
 pub centre_knot-requires : goal.centre_knot-requires
-centre_knot-requires c = (omega (arith, (centre-bounds c.args.last c.requires.1)), c.requires.1)
+centre_knot-requires c = (omega (arith, (centre_bounds c.args.last c.requires.1)), c.requires.1)
 
 pub centre_knot-requires-2 : goal.centre_knot-requires-2
-centre_knot-requires-2 c = (omega (arith, (centre-bounds c.args.last c.requires.1)), c.requires.1)
+centre_knot-requires-2 c = (omega (arith, (centre_bounds c.args.last c.requires.1)), c.requires.1)

@@ -5,7 +5,7 @@ use native.Mathlib.Omega.{arith}
 use borrow.Author.Rules.{rules}
 use lib.ListN.{length}
 use Rattle.gains.specs.declared.Bracket.{Bracket}
-use Rattle.gains.proofs.lookup.Writing.{written_none, written-more, written-done, lookup-at, knot-room}
+use Rattle.gains.proofs.lookup.Writing.{written_none, written_more, written_done, lookup_at, knot_room}
 use Rattle.gains.proofs.lookup.lookup.Invariants.{Rooms, number}
 use Rattle.gains.proofs.lookup.lookup.Goals as goal
 
@@ -20,7 +20,7 @@ rooms from n c r size h g =
     }
   where
     room : (i j : ℕ) → i ≤ c.upper → j ≤ 19 → from + ((i * 20 + j) * n + n) ≤ size
-    room i j a b = omega (arith, knot-room n i j c.upper a b, g)
+    room i j a b = omega (arith, knot_room n i j c.upper a b, g)
 
 pub loop-k-init : goal.loop-k-init
 loop-k-init c =
@@ -42,8 +42,8 @@ loop-k-preserved c =
       few = w.few;
       size = w.size;
       rooms = w.rooms;
-      written = written-more (number a.store.now a.from a.n a.c a.r) a.out.now c.loop-k.numbers c.loop-k.k _ (omega (arith, w.written.room))
-          (c.mix.ensures ∙ rw (c.mix-upper.ensures, c.mix-lower.ensures) (sym (lookup-at a.store.now a.from a.n c.loop-k.k a.c a.r))) w.written;
+      written = written_more (number a.store.now a.from a.n a.c a.r) a.out.now c.loop-k.numbers c.loop-k.k _ (omega (arith, w.written.room))
+          (c.mix.ensures ∙ rw (c.mix-upper.ensures, c.mix-lower.ensures) (sym (lookup_at a.store.now a.from a.n c.loop-k.k a.c a.r))) w.written;
     }
 
 pub returns : goal.returns
@@ -51,7 +51,7 @@ returns c =
     let a = c.args in
     let w = c.loop-k.invariant in
     let e : c.loop-k.k ≡ a.n = omega (arith, w.reached) in
-    written-done (number a.store.now a.from a.n a.c a.r) a.out.now c.loop-k.numbers a.n (rw e at w.written)
+    written_done (number a.store.now a.from a.n a.c a.r) a.out.now c.loop-k.numbers a.n (rw e at w.written)
 
 pub overflow_mul-p-2 : goal.overflow_mul-p-2
 overflow_mul-p-2 c = omega (arith, rooms c.args.from c.args.n c.args.c c.args.r (length c.args.store.now) c.requires.n_bound c.requires.n_in_bounds)

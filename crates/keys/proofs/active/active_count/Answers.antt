@@ -6,7 +6,7 @@ use lib.Dec.{eqb}
 use lib.ListN.{length}
 use lib.Seq.{slice}
 use Rattle.lists.specs.Lists.{filtered}
-use Rattle.keys.proofs.ActiveKeys.{active-in}
+use Rattle.keys.proofs.ActiveKeys.{active_in_lem}
 use Rattle.keys.proofs.active.active_count.Goals as goal
 
 pub returns : goal.returns
@@ -14,4 +14,4 @@ returns c =
     let key = c.args.k.now in
     c.ones.ensures
     ∙ ap (λ (n : ℕ). length (filtered (eqb 1) (slice 24 (24 + n) key))) c.covered.ensures
-    ∙ active-in key (search rules)
+    ∙ active_in_lem key (search rules)

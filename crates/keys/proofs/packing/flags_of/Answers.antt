@@ -5,12 +5,12 @@ use native.Mathlib.Omega.{arith}
 use mir.Val.{bool_byte}
 use Rattle.keys.proofs.packing.flags_of.Goals as goal
 
-byte-most : (b : Bool) → bool_byte b ≤ 1
-byte-most true = omega arith
-byte-most false = omega arith
+byte_most : (b : Bool) → bool_byte b ≤ 1
+byte_most true = omega arith
+byte_most false = omega arith
 
 pub overflow_mul-result : goal.overflow_mul-result
-overflow_mul-result c = omega (arith, byte-most c.args.lfe)
+overflow_mul-result c = omega (arith, byte_most c.args.lfe)
 
 pub overflow_add-result : goal.overflow_add-result
-overflow_add-result c = omega (arith, byte-most c.args.lfe, byte-most c.args.enabled)
+overflow_add-result c = omega (arith, byte_most c.args.lfe, byte_most c.args.enabled)

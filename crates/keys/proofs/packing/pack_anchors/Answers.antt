@@ -8,7 +8,7 @@ use Rattle.lists.proofs.Loops.{long}
 use Rattle.layout.specs.Topology.{anchor_name}
 use Rattle.layout.specs.Steps.Starts.{no_anchor}
 use Rattle.keys.specs.Steps.{x_pattern}
-use Rattle.keys.proofs.KeyParts.{packed_none, packed_more, packed-done}
+use Rattle.keys.proofs.KeyParts.{packed_none, packed_more, packed_done}
 use Rattle.keys.proofs.packing.pack_anchors.Goals as goal
 
 pub loop-i-init : goal.loop-i-init
@@ -24,7 +24,7 @@ loop-i-preserved c =
     packed_more _ _ _ _ _ _ v.key v.i _ _ _ _ _ _ v.invariant (omega arith) (omega arith) refl (sym (get_or-map anchor_name xs v.i no_anchor)) (c.pattern_of.ensures ∙ sym (get_or-map x_pattern xs v.i no_anchor))
 
 pub returns : goal.returns
-returns c = packed-done _ _ _ _ _ _ _ _ c.loop-i.invariant (omega arith)
+returns c = packed_done _ _ _ _ _ _ _ _ c.loop-i.invariant (omega arith)
 
 pub bounds-key-i-in-loop-i : goal.bounds-key-i-in-loop-i
 bounds-key-i-in-loop-i c = simp length-set (omega arith)

@@ -6,7 +6,7 @@ use lib.ListN.{length, length-map, length-set, get_or-map}
 use Rattle.lists.proofs.Loops.{long}
 use Rattle.layout.specs.Channels.{channel_name, no_channel}
 use Rattle.keys.specs.Keys.{flag_number}
-use Rattle.keys.proofs.KeyParts.{packed_none, packed_more, packed-done}
+use Rattle.keys.proofs.KeyParts.{packed_none, packed_more, packed_done}
 use Rattle.keys.proofs.packing.pack_channels.Goals as goal
 
 pub loop-i-init : goal.loop-i-init
@@ -21,7 +21,7 @@ loop-i-preserved c =
     packed_more _ _ _ _ _ _ v.key v.i _ _ _ _ _ _ v.invariant (omega arith) (omega arith) refl (sym (get_or-map channel_name xs v.i no_channel)) (c.flags_of.ensures ∙ sym (get_or-map flag_number xs v.i no_channel))
 
 pub returns : goal.returns
-returns c = packed-done _ _ _ _ _ _ _ _ c.loop-i.invariant (omega arith)
+returns c = packed_done _ _ _ _ _ _ _ _ c.loop-i.invariant (omega arith)
 
 pub bounds-key-i-in-loop-i : goal.bounds-key-i-in-loop-i
 bounds-key-i-in-loop-i c = simp length-set (omega arith)

@@ -9,9 +9,9 @@ use lib.ListN.{length, length-map, length-set, get_or-map}
 use Rattle.lists.proofs.Loops.{long}
 use Rattle.layout.specs.Topology.{layer_count}
 use Rattle.layout.specs.Steps.Starts.{no_layer}
-use Rattle.layout.proofs.StartsFrom.{starts_first, starts-next}
+use Rattle.layout.proofs.StartsFrom.{starts_first, starts_next}
 use Rattle.keys.specs.Steps.{z_pattern}
-use Rattle.keys.proofs.KeyParts.{packed_none, packed_more, packed-done}
+use Rattle.keys.proofs.KeyParts.{packed_none, packed_more, packed_done}
 use Rattle.keys.proofs.packing.pack_layers.Goals as goal
 
 pub loop-i-init : goal.loop-i-init
@@ -25,7 +25,7 @@ loop-i-preserved c =
     let v = c.loop-i in
     let xs = c.args.v in
     let j : v.i < length (map layer_count xs) = rw length-map (omega arith) in
-    (packed_more _ _ _ _ _ _ v.key v.i _ _ _ _ _ _ v.invariant.0 (omega arith) (omega arith) refl (sym (get_or-map layer_count xs v.i no_layer)) (c.pattern_of.ensures ∙ sym (get_or-map z_pattern xs v.i no_layer)), rw (c.next_start-rows.ensures, v.invariant.1, add-one v.i, ← get_or-map layer_count xs v.i no_layer) (sym (starts-next 0 (map layer_count xs) v.i j)))
+    (packed_more _ _ _ _ _ _ v.key v.i _ _ _ _ _ _ v.invariant.0 (omega arith) (omega arith) refl (sym (get_or-map layer_count xs v.i no_layer)) (c.pattern_of.ensures ∙ sym (get_or-map z_pattern xs v.i no_layer)), rw (c.next_start-rows.ensures, v.invariant.1, add-one v.i, ← get_or-map layer_count xs v.i no_layer) (sym (starts_next 0 (map layer_count xs) v.i j)))
 
 pub returns : goal.returns
 returns c =
@@ -33,7 +33,7 @@ returns c =
     let e : v.i ≡ c.args.n = omega arith in
     record {
       value = v.invariant.1 ∙ rw e;
-      key = packed-done _ _ _ _ _ _ _ _ v.invariant.0 (omega arith);
+      key = packed_done _ _ _ _ _ _ _ _ v.invariant.0 (omega arith);
     }
 
 pub bounds-key-i-in-loop-i : goal.bounds-key-i-in-loop-i

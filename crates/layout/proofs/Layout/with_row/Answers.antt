@@ -2,11 +2,11 @@
 use native.Mathlib.Omega.{arith}
 use borrow.Author.Rules.{rules}
 use Rattle.lists.proofs.Loops.{long}
-use Rattle.layout.proofs.build.Last.{layer-bounds, no-row-added, row_here, row-past}
+use Rattle.layout.proofs.build.Last.{layer_bounds, no_row_added, row_here, row_past}
 use Rattle.layout.proofs.Layout.with_row.Goals as goal
 
 pub returns-then-depth : goal.returns-then-depth
-returns-then-depth c = no-row-added c.args.self c.args.y c.if-depth.true
+returns-then-depth c = no_row_added c.args.self c.args.y c.if-depth.true
 
 pub returns-then-at-lt24 : goal.returns-then-at-lt24
 returns-then-at-lt24 c =
@@ -16,22 +16,22 @@ returns-then-at-lt24 c =
 pub returns-else-at-lt24 : goal.returns-else-at-lt24
 returns-else-at-lt24 c =
     let a = c.args in
-    row-past a.self (search (rules, long)) c.if-depth.false a.y _ _ c.row_total-at.ensures c.one_more.ensures c.if-at-lt24.false
+    row_past a.self (search (rules, long)) c.if-depth.false a.y _ _ c.row_total-at.ensures c.one_more.ensures c.if-at-lt24.false
 
 pub overflow_sub-last : goal.overflow_sub-last
-overflow_sub-last c = omega (arith, (layer-bounds c.args.self.depth c.if-depth.false))
+overflow_sub-last c = omega (arith, (layer_bounds c.args.self.depth c.if-depth.false))
 
 pub offset_bounds-l-depth : goal.offset_bounds-l-depth
-offset_bounds-l-depth c = omega (arith, (layer-bounds c.args.self.depth c.if-depth.false))
+offset_bounds-l-depth c = omega (arith, (layer_bounds c.args.self.depth c.if-depth.false))
 
 pub bounds-l-depth : goal.bounds-l-depth
-bounds-l-depth c = omega (arith, (layer-bounds c.args.self.depth c.if-depth.false))
+bounds-l-depth c = omega (arith, (layer_bounds c.args.self.depth c.if-depth.false))
 
 pub overflow_sub-depth : goal.overflow_sub-depth
-overflow_sub-depth c = omega (arith, (layer-bounds c.args.self.depth c.if-depth.false))
+overflow_sub-depth c = omega (arith, (layer_bounds c.args.self.depth c.if-depth.false))
 
 pub offset_bounds-l-depth-2 : goal.offset_bounds-l-depth-2
-offset_bounds-l-depth-2 c = omega (arith, (layer-bounds c.args.self.depth c.if-depth.false))
+offset_bounds-l-depth-2 c = omega (arith, (layer_bounds c.args.self.depth c.if-depth.false))
 
 pub bounds-l-depth-2 : goal.bounds-l-depth-2
-bounds-l-depth-2 c = omega (arith, (layer-bounds c.args.self.depth c.if-depth.false))
+bounds-l-depth-2 c = omega (arith, (layer_bounds c.args.self.depth c.if-depth.false))

@@ -8,7 +8,7 @@ use lib.ListN.{length, length-take}
 use Rattle.lists.specs.Lists.{total}
 use Rattle.lists.proofs.Loops.{long}
 use Rattle.layout.specs.Topology.{row_count, layer_count, used_layers}
-use Rattle.layout.proofs.StartsFrom.{starts-used}
+use Rattle.layout.proofs.StartsFrom.{starts_used}
 use Rattle.layout.proofs.starts.anchor_total.Goals as goal
 
 rows_are : (c : goal.After-row_total) → c.row_total.result ≡ min (total (map layer_count (used_layers c.args.l))) 24
@@ -20,7 +20,7 @@ rows_are c =
 pub returns : goal.returns
 returns c =
     let l = c.args.l in
-    rw (c.anchor_starts.ensures, rows_are c) (starts-used row_count 24 (total (map layer_count (used_layers l))) l.rows l.anchors (search (rules, long)) (search (rules, long)))
+    rw (c.anchor_starts.ensures, rows_are c) (starts_used row_count 24 (total (map layer_count (used_layers l))) l.rows l.anchors (search (rules, long)) (search (rules, long)))
 
 pub offset_bounds-starts-row_total : goal.offset_bounds-starts-row_total
 offset_bounds-starts-row_total c = omega (arith, rows_are c)

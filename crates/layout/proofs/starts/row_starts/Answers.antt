@@ -7,7 +7,7 @@ use Rattle.lists.proofs.Loops.{long}
 use Rattle.lists.proofs.Fill.{fill_done}
 use Rattle.layout.specs.Topology.{layer_count}
 use Rattle.layout.specs.Steps.Starts.{no_layer}
-use Rattle.layout.proofs.StartsFrom.{start_none, start-more}
+use Rattle.layout.proofs.StartsFrom.{start_none, start_more}
 use Rattle.layout.proofs.starts.row_starts.Goals as goal
 
 pub loop-i-init : goal.loop-i-init
@@ -17,7 +17,7 @@ pub loop-i-preserved : goal.loop-i-preserved
 loop-i-preserved c =
     let v = c.loop-i in
     let parts = c.args.l.layers in
-    start-more _ _ _ v.s v.i _ _ v.invariant c.loop-i-test.true (sym (get_or-map layer_count parts v.i no_layer)) c.next_start-s.ensures
+    start_more _ _ _ v.s v.i _ _ v.invariant c.loop-i-test.true (sym (get_or-map layer_count parts v.i no_layer)) c.next_start-s.ensures
 
 pub returns : goal.returns
 returns c = fill_done _ _ _ _ c.loop-i.invariant.written (omega arith)

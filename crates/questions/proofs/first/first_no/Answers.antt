@@ -11,18 +11,18 @@ use Rattle.lists.specs.Lists.{all_of, all_distinct}
 use Rattle.layout.specs.Name.{valid_name}
 use Rattle.layout.specs.Questions.{from_to, question1, question2}
 use Rattle.layout.proofs.QuestionsCounted.{both, within, outside}
-use Rattle.layout.proofs.QuestionsNamed.{question1-not}
-use Rattle.layout.proofs.QuestionsFirst.{first-1, first-2, first-3, first-4, first-5, first-6, first-none}
+use Rattle.layout.proofs.QuestionsNamed.{question1_not}
+use Rattle.layout.proofs.QuestionsFirst.{first_1, first_2, first_3, first_4, first_5, first_6, first_none}
 use Rattle.keys.specs.InKey.{layout_in}
 use Rattle.questions.proofs.Runs.{sum_fits}
-use Rattle.keys.proofs.InKey.{used-is, depth_is}
-use Rattle.questions.proofs.KeyQuestions.{question1-by, question3-by, rows-no, question4-by, question5-by, question6-by}
+use Rattle.keys.proofs.InKey.{used_is, depth_is}
+use Rattle.questions.proofs.KeyQuestions.{question1_by, question3_by, rows_no, question4_by, question5_by, question6_by}
 use Rattle.questions.proofs.first.first_no.Goals as goal
 
 module _ (key : List ℕ) (long : length key ≡ 156) where
   -- the first two questions, by the numbers of channels and layers and by the names
   yes1 : from_to 1 24 (get_or key 152 0) ≡ true → (all_of valid_name (take (get_or key 152 0) key) && all_distinct (take (get_or key 152 0) key)) ≡ true → question1 (layout_in key) ≡ true
-  yes1 sizes names = sym (question1-by key long sizes) ∙ names
+  yes1 sizes names = sym (question1_by key long sizes) ∙ names
 
   yes2 : from_to 1 4 (get_or key 153 0) ≡ true → question2 (layout_in key) ≡ true
   yes2 depths = ap (from_to 1 4) (depth_is key long) ∙ depths
@@ -35,13 +35,13 @@ distinct key names = (both (all_of valid_name (take (get_or key 152 0) key)) (al
 pub returns-then-used : goal.returns-then-used
 returns-then-used c =
     let key = c.args.k.now in
-    first-1 _ (sym (question1-not _ (ap (from_to 1 24) (used-is key (search rules)) ∙ not-true _ (sym (outside 1 24 (get_or key 152 0)) ∙ c.if-used.true))))
+    first_1 _ (sym (question1_not _ (ap (from_to 1 24) (used_is key (search rules)) ∙ not-true _ (sym (outside 1 24 (get_or key 152 0)) ∙ c.if-used.true))))
 
 pub returns-then-not-channels_named : goal.returns-then-not-channels_named
 returns-then-not-channels_named c =
     let key = c.args.k.now in
     let sizes = not-false _ (sym (outside 1 24 (get_or key 152 0)) ∙ c.if-used.false) in
-    first-1 _ (sym (question1-by key (search rules) sizes) ∙ sym c.channels_named.ensures.value ∙ c.if-not-channels_named.true)
+    first_1 _ (sym (question1_by key (search rules) sizes) ∙ sym c.channels_named.ensures.value ∙ c.if-not-channels_named.true)
 
 pub returns-then-depth : goal.returns-then-depth
 returns-then-depth c =
@@ -49,7 +49,7 @@ returns-then-depth c =
     let long : length key ≡ 156 = search rules in
     let sizes = not-false _ (sym (outside 1 24 (get_or key 152 0)) ∙ c.if-used.false) in
     let q1 = yes1 key long sizes (sym c.channels_named.ensures.value ∙ c.if-not-channels_named.false) in
-    first-2 _ q1 (ap (from_to 1 4) (depth_is key long) ∙ not-true _ (sym (outside 1 4 (get_or key 153 0)) ∙ c.if-depth.true))
+    first_2 _ q1 (ap (from_to 1 4) (depth_is key long) ∙ not-true _ (sym (outside 1 4 (get_or key 153 0)) ∙ c.if-depth.true))
 
 pub returns-then-not-any_active : goal.returns-then-not-any_active
 returns-then-not-any_active c =
@@ -58,7 +58,7 @@ returns-then-not-any_active c =
     let sizes = not-false _ (sym (outside 1 24 (get_or key 152 0)) ∙ c.if-used.false) in
     let depths = not-false _ (sym (outside 1 4 (get_or key 153 0)) ∙ c.if-depth.false) in
     let q1 = yes1 key long sizes (sym c.channels_named.ensures.value ∙ c.if-not-channels_named.false) in
-    first-3 _ q1 (yes2 key long depths) (sym (question3-by key long sizes) ∙ sym c.any_active.ensures ∙ c.if-not-any_active.true)
+    first_3 _ q1 (yes2 key long depths) (sym (question3_by key long sizes) ∙ sym c.any_active.ensures ∙ c.if-not-any_active.true)
 
 pub returns-then-rows-gt24 : goal.returns-then-rows-gt24
 returns-then-rows-gt24 c =
@@ -67,8 +67,8 @@ returns-then-rows-gt24 c =
     let sizes = not-false _ (sym (outside 1 24 (get_or key 152 0)) ∙ c.if-used.false) in
     let depths = not-false _ (sym (outside 1 4 (get_or key 153 0)) ∙ c.if-depth.false) in
     let q1 = yes1 key long sizes (sym c.channels_named.ensures.value ∙ c.if-not-channels_named.false) in
-    let q3 = sym (question3-by key long sizes) ∙ sym c.any_active.ensures ∙ c.if-not-any_active.false in
-    first-4 _ q1 (yes2 key long depths) q3 (rows-no key long sizes depths c.counted-rows.result c.counted-rows.ensures c.if-rows-gt24.true)
+    let q3 = sym (question3_by key long sizes) ∙ sym c.any_active.ensures ∙ c.if-not-any_active.false in
+    first_4 _ q1 (yes2 key long depths) q3 (rows_no key long sizes depths c.counted-rows.result c.counted-rows.ensures c.if-rows-gt24.true)
 
 pub returns-then-anchors-gt24 : goal.returns-then-anchors-gt24
 returns-then-anchors-gt24 c =
@@ -77,9 +77,9 @@ returns-then-anchors-gt24 c =
     let sizes = not-false _ (sym (outside 1 24 (get_or key 152 0)) ∙ c.if-used.false) in
     let depths = not-false _ (sym (outside 1 4 (get_or key 153 0)) ∙ c.if-depth.false) in
     let q1 = yes1 key long sizes (sym c.channels_named.ensures.value ∙ c.if-not-channels_named.false) in
-    let q3 = sym (question3-by key long sizes) ∙ sym c.any_active.ensures ∙ c.if-not-any_active.false in
-    let counts = question4-by key long sizes depths c.counted-rows.result c.counted-rows.ensures c.if-rows-gt24.false c.counted-anchors.result c.counted-anchors.ensures in
-    first-4 _ q1 (yes2 key long depths) q3 (sym counts ∙ lt-leb _ 24 c.if-anchors-gt24.true)
+    let q3 = sym (question3_by key long sizes) ∙ sym c.any_active.ensures ∙ c.if-not-any_active.false in
+    let counts = question4_by key long sizes depths c.counted-rows.result c.counted-rows.ensures c.if-rows-gt24.false c.counted-anchors.result c.counted-anchors.ensures in
+    first_4 _ q1 (yes2 key long depths) q3 (sym counts ∙ lt-leb _ 24 c.if-anchors-gt24.true)
 
 pub returns-then-not-all_ordered : goal.returns-then-not-all_ordered
 returns-then-not-all_ordered c =
@@ -88,11 +88,11 @@ returns-then-not-all_ordered c =
     let sizes = not-false _ (sym (outside 1 24 (get_or key 152 0)) ∙ c.if-used.false) in
     let depths = not-false _ (sym (outside 1 4 (get_or key 153 0)) ∙ c.if-depth.false) in
     let q1 = yes1 key long sizes (sym c.channels_named.ensures.value ∙ c.if-not-channels_named.false) in
-    let q3 = sym (question3-by key long sizes) ∙ sym c.any_active.ensures ∙ c.if-not-any_active.false in
-    let counts = question4-by key long sizes depths c.counted-rows.result c.counted-rows.ensures c.if-rows-gt24.false c.counted-anchors.result c.counted-anchors.ensures in
+    let q3 = sym (question3_by key long sizes) ∙ sym c.any_active.ensures ∙ c.if-not-any_active.false in
+    let counts = question4_by key long sizes depths c.counted-rows.result c.counted-rows.ensures c.if-rows-gt24.false c.counted-anchors.result c.counted-anchors.ensures in
     let q4 = sym counts ∙ le-leb _ 24 c.if-anchors-gt24.false in
-    let order = question5-by key long sizes depths c.counted-rows.result c.counted-rows.ensures c.if-rows-gt24.false c.counted-anchors.result c.counted-anchors.ensures c.if-anchors-gt24.false in
-    first-5 _ q1 (yes2 key long depths) q3 q4 (sym order ∙ sym c.all_ordered.ensures ∙ c.if-not-all_ordered.true)
+    let order = question5_by key long sizes depths c.counted-rows.result c.counted-rows.ensures c.if-rows-gt24.false c.counted-anchors.result c.counted-anchors.ensures c.if-anchors-gt24.false in
+    first_5 _ q1 (yes2 key long depths) q3 q4 (sym order ∙ sym c.all_ordered.ensures ∙ c.if-not-all_ordered.true)
 
 pub returns-then-not-anchors_named : goal.returns-then-not-anchors_named
 returns-then-not-anchors_named c =
@@ -101,13 +101,13 @@ returns-then-not-anchors_named c =
     let sizes = not-false _ (sym (outside 1 24 (get_or key 152 0)) ∙ c.if-used.false) in
     let depths = not-false _ (sym (outside 1 4 (get_or key 153 0)) ∙ c.if-depth.false) in
     let names = sym c.channels_named.ensures.value ∙ c.if-not-channels_named.false in
-    let q3 = sym (question3-by key long sizes) ∙ sym c.any_active.ensures ∙ c.if-not-any_active.false in
-    let counts = question4-by key long sizes depths c.counted-rows.result c.counted-rows.ensures c.if-rows-gt24.false c.counted-anchors.result c.counted-anchors.ensures in
+    let q3 = sym (question3_by key long sizes) ∙ sym c.any_active.ensures ∙ c.if-not-any_active.false in
+    let counts = question4_by key long sizes depths c.counted-rows.result c.counted-rows.ensures c.if-rows-gt24.false c.counted-anchors.result c.counted-anchors.ensures in
     let q4 = sym counts ∙ le-leb _ 24 c.if-anchors-gt24.false in
-    let order = question5-by key long sizes depths c.counted-rows.result c.counted-rows.ensures c.if-rows-gt24.false c.counted-anchors.result c.counted-anchors.ensures c.if-anchors-gt24.false in
+    let order = question5_by key long sizes depths c.counted-rows.result c.counted-rows.ensures c.if-rows-gt24.false c.counted-anchors.result c.counted-anchors.ensures c.if-anchors-gt24.false in
     let q5 = sym order ∙ sym c.all_ordered.ensures ∙ c.if-not-all_ordered.false in
-    let named = question6-by key long sizes depths c.counted-rows.result c.counted-rows.ensures c.if-rows-gt24.false c.counted-anchors.result c.counted-anchors.ensures c.if-anchors-gt24.false (distinct key names) in
-    first-6 _ (yes1 key long sizes names) (yes2 key long depths) q3 q4 q5 (sym named ∙ sym c.anchors_named.ensures ∙ c.if-not-anchors_named.true)
+    let named = question6_by key long sizes depths c.counted-rows.result c.counted-rows.ensures c.if-rows-gt24.false c.counted-anchors.result c.counted-anchors.ensures c.if-anchors-gt24.false (distinct key names) in
+    first_6 _ (yes1 key long sizes names) (yes2 key long depths) q3 q4 q5 (sym named ∙ sym c.anchors_named.ensures ∙ c.if-not-anchors_named.true)
 
 pub returns : goal.returns
 returns c =
@@ -116,13 +116,13 @@ returns c =
     let sizes = not-false _ (sym (outside 1 24 (get_or key 152 0)) ∙ c.if-used.false) in
     let depths = not-false _ (sym (outside 1 4 (get_or key 153 0)) ∙ c.if-depth.false) in
     let names = sym c.channels_named.ensures.value ∙ c.if-not-channels_named.false in
-    let q3 = sym (question3-by key long sizes) ∙ sym c.any_active.ensures ∙ c.if-not-any_active.false in
-    let counts = question4-by key long sizes depths c.counted-rows.result c.counted-rows.ensures c.if-rows-gt24.false c.counted-anchors.result c.counted-anchors.ensures in
+    let q3 = sym (question3_by key long sizes) ∙ sym c.any_active.ensures ∙ c.if-not-any_active.false in
+    let counts = question4_by key long sizes depths c.counted-rows.result c.counted-rows.ensures c.if-rows-gt24.false c.counted-anchors.result c.counted-anchors.ensures in
     let q4 = sym counts ∙ le-leb _ 24 c.if-anchors-gt24.false in
-    let order = question5-by key long sizes depths c.counted-rows.result c.counted-rows.ensures c.if-rows-gt24.false c.counted-anchors.result c.counted-anchors.ensures c.if-anchors-gt24.false in
+    let order = question5_by key long sizes depths c.counted-rows.result c.counted-rows.ensures c.if-rows-gt24.false c.counted-anchors.result c.counted-anchors.ensures c.if-anchors-gt24.false in
     let q5 = sym order ∙ sym c.all_ordered.ensures ∙ c.if-not-all_ordered.false in
-    let named = question6-by key long sizes depths c.counted-rows.result c.counted-rows.ensures c.if-rows-gt24.false c.counted-anchors.result c.counted-anchors.ensures c.if-anchors-gt24.false (distinct key names) in
-    first-none _ (yes1 key long sizes names) (yes2 key long depths) q3 q4 q5 (sym named ∙ sym c.anchors_named.ensures ∙ c.if-not-anchors_named.false)
+    let named = question6_by key long sizes depths c.counted-rows.result c.counted-rows.ensures c.if-rows-gt24.false c.counted-anchors.result c.counted-anchors.ensures c.if-anchors-gt24.false (distinct key names) in
+    first_none _ (yes1 key long sizes names) (yes2 key long depths) q3 q4 q5 (sym named ∙ sym c.anchors_named.ensures ∙ c.if-not-anchors_named.false)
 
 -- ---- what the parts ask
 pub channels_named-requires : goal.channels_named-requires

@@ -4,7 +4,7 @@ use mathlib.Core.Path.{sym, ◌∙◌}
 use mathlib.Core.Bool.{false≢true}
 use native.Mathlib.Omega.{arith}
 use borrow.Author.Rules.{rules}
-use Rattle.questions.proofs.Indexed.{named_none, named-not, named_more, named-all, named-clear, named-told}
+use Rattle.questions.proofs.Indexed.{named_none, named_not, named_more, named_all, named_clear, named_told}
 use Rattle.questions.proofs.index.channels_named.Goals as goal
 
 pub loop-i-init : goal.loop-i-init
@@ -16,7 +16,7 @@ returns-then-not-is_name c =
     let a = c.args in
     let v = c.loop-i in
     record {
-      value = named-not a.key.now a.n v.entries v.clear v.i v.invariant (v.i - 1) (omega arith) (sym c.is_name.ensures ∙ c.if-not-is_name.true);
+      value = named_not a.key.now a.n v.entries v.clear v.i v.invariant (v.i - 1) (omega arith) (sym c.is_name.ensures ∙ c.if-not-is_name.true);
       index = λ z. absurd (false≢true z);
     }
 
@@ -30,14 +30,14 @@ pub returns-then-clear : goal.returns-then-clear
 returns-then-clear c =
     let v = c.loop-i in
     record {
-      value = named-clear _ _ _ _ _ v.invariant (omega arith) c.if-clear.true;
-      index = λ _. named-told _ _ _ _ _ v.invariant (omega arith);
+      value = named_clear _ _ _ _ _ v.invariant (omega arith) c.if-clear.true;
+      index = λ _. named_told _ _ _ _ _ v.invariant (omega arith);
     }
 
 pub returns : goal.returns
 returns c =
     let v = c.loop-i in
     record {
-      value = rw (named-all _ _ _ _ _ v.invariant (omega arith)) c.all_distinct.ensures;
-      index = λ _. named-told _ _ _ _ _ v.invariant (omega arith);
+      value = rw (named_all _ _ _ _ _ v.invariant (omega arith)) c.all_distinct.ensures;
+      index = λ _. named_told _ _ _ _ _ v.invariant (omega arith);
     }

@@ -6,7 +6,7 @@ use native.Mathlib.Omega.{arith}
 use borrow.Author.Rules.{rules}
 use borrow.Author.Tests.{lt-ltb, le-ltb}
 use lib.ListN.{length}
-use Rattle.questions.proofs.Distinct.{before, front, front-not}
+use Rattle.questions.proofs.Distinct.{before, front, front_not}
 use Rattle.questions.proofs.numbers.all_distinct.Goals as goal
 
 pub returns-then-index_of-i : goal.returns-then-index_of-i
@@ -14,7 +14,7 @@ returns-then-index_of-i c =
     let a = c.args in
     let h : c.loop-i.i < length a.v.now = omega arith in
     let t = ap not (before a.v.now c.loop-i.i h ∙ lt-ltb _ _ (rw c.index_of.ensures at c.if-index_of-i.true)) in
-    sym (front-not a.v.now c.loop-i.i h a.n (omega arith) (front a.v.now c.loop-i.i h c.loop-i.invariant.2 ∙ t))
+    sym (front_not a.v.now c.loop-i.i h a.n (omega arith) (front a.v.now c.loop-i.i h c.loop-i.invariant.2 ∙ t))
 
 pub loop-i-preserved : goal.loop-i-preserved
 loop-i-preserved c =

@@ -6,10 +6,10 @@ use native.Mathlib.Omega.{arith}
 use lib.Ieee.{Float, of_bits, neg}
 use lib.ListN.{length, take, drop_of_length-le, length-take}
 use lib.Seq.{slice}
-use Rattle.lists.proofs.Loops.{slice-map, slice-done}
+use Rattle.lists.proofs.Loops.{slice_map, slice_done}
 use Rattle.layout.specs.Questions.{ordered}
 use Rattle.keys.specs.InKey.{double}
-use Rattle.questions.proofs.Ascending.{goes_first, goes-next, slice_fits}
+use Rattle.questions.proofs.Ascending.{goes_first, goes_next, slice_fits}
 use Rattle.questions.proofs.numbers.is_ordered.Goals as goal
 
 empty : (a b : ℕ) (v : List Float) → b ≤ a → slice a b v ≡ []
@@ -26,19 +26,19 @@ pub loop-i-init : goal.loop-i-init
 unfolding of_bits neg
 loop-i-init c =
     let a = c.args in
-    let e = slice-map double a.a a.b a.v.now 0 (omega arith) (omega arith) in
+    let e = slice_map double a.a a.b a.v.now 0 (omega arith) (omega arith) in
     (omega arith, omega arith, goes_first _ _ _ _ (slice_fits a.a a.b a.v.now) e c.of_bits-last.ensures)
 
 pub loop-i-preserved : goal.loop-i-preserved
 loop-i-preserved c =
     let a = c.args in
-    let e = slice-map double c.loop-i.i a.b a.v.now 0 (omega arith) (omega arith) in
-    (omega arith, omega arith, goes-next c.loop-i.good c.loop-i.last _ _ _ _ e c.of_bits-next.ensures ∙ c.loop-i.invariant.2)
+    let e = slice_map double c.loop-i.i a.b a.v.now 0 (omega arith) (omega arith) in
+    (omega arith, omega arith, goes_next c.loop-i.good c.loop-i.last _ _ _ _ e c.of_bits-next.ensures ∙ c.loop-i.invariant.2)
 
 pub returns : goal.returns
 unfolding of_bits
 returns c =
     let a = c.args in
     let v = c.loop-i in
-    let e = slice-done v.i a.b (map double a.v.now) (omega arith) in
+    let e = slice_done v.i a.b (map double a.v.now) (omega arith) in
     rw e at v.invariant.2

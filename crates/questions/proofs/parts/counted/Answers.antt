@@ -7,16 +7,16 @@ use borrow.Author.Tests.{not-true, not-false}
 use lib.ListN.{get_or}
 use Rattle.layout.specs.Questions.{from_to}
 use Rattle.layout.proofs.QuestionsCounted.{within, outside}
-use Rattle.questions.proofs.Runs.{sum-none, sum_more, sum-not, sum_done}
+use Rattle.questions.proofs.Runs.{sum_none, sum_more, sum_not, sum_done}
 use Rattle.questions.proofs.parts.counted.Goals as goal
 
 pub loop-i-init : goal.loop-i-init
-loop-i-init c = let p = c.requires in sum-none _ _ _ _ p.0 p.1 p.2
+loop-i-init c = let p = c.requires in sum_none _ _ _ _ p.0 p.1 p.2
 
 pub returns-then-c-most : goal.returns-then-c-most
 returns-then-c-most c =
     let a = c.args in
-    sum-not a.key.now a.at a.n a.most c.loop-i.i c.loop-i.total c.loop-i.invariant (omega arith) (not-true _ (sym (outside 1 a.most (get_or a.key.now (a.at + c.loop-i.i) 0)) ∙ c.if-c-most.true))
+    sum_not a.key.now a.at a.n a.most c.loop-i.i c.loop-i.total c.loop-i.invariant (omega arith) (not-true _ (sym (outside 1 a.most (get_or a.key.now (a.at + c.loop-i.i) 0)) ∙ c.if-c-most.true))
 
 -- the count passed the test
 inside : (c : goal.Else-c-most) → let a = c.args in from_to 1 a.most (get_or a.key.now (a.at + c.loop-i.i) 0) ≡ true

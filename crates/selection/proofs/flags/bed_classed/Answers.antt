@@ -4,7 +4,7 @@ use mathlib.Core.Bool.{Bool, not, ◌||◌}
 use lib.Ieee.{Float, eq}
 use Rattle.doubles.specs.Arithmetic.{zero64}
 use native.Mathlib.Omega.{arith}
-use Rattle.selection.proofs.KeyLayers.{classed-none, classed-step, classed-not, classed-done, classed-answer}
+use Rattle.selection.proofs.KeyLayers.{classed_none, classed_step, classed_not, classed_done, classed_answer}
 use Rattle.selection.proofs.flags.bed_classed.Invariants.{by}
 use Rattle.selection.proofs.flags.bed_classed.Goals as goal
 
@@ -15,7 +15,7 @@ pub loop-i-init : goal.loop-i-init
 loop-i-init c =
     let p = c.requires in
     let a = c.args in
-    (p.key_len, omega (arith, p.accepted.few_layers, p.depth_value), omega arith, omega arith, classed-none a.key.now a.used a.depth (by a.state.horizontal) c.five_x-five.result)
+    (p.key_len, omega (arith, p.accepted.few_layers, p.depth_value), omega arith, omega arith, classed_none a.key.now a.used a.depth (by a.state.horizontal) c.five_x-five.result)
 
 read : (z x : Float) (r rest : Bool) → z ≡ x → r ≡ (not (eq z zero64) || rest) → r ≡ (not (eq x zero64) || rest)
 read z x r rest e f = f ∙ ap (λ (y : Float). not (eq y zero64) || rest) e
@@ -26,8 +26,8 @@ returns-then-not-layer_classed c =
     let v = c.loop-i in
     let s = by a.state.horizontal in
     let p = c.requires in
-    classed-answer a.key.now a.used a.depth s _ c.five_x-five.result _ v.row v.at v.i v.invariant.4 c.is_no_constraints.ensures c.if-is_no_constraints.false c.five_x-five.ensures
-    (classed-not a.key.now a.used a.depth s v.row v.at v.i _ _ c.loop-i-test.true c.next_start-rows.ensures c.anchors_end-end.ensures c.five_x-five.result _ v.invariant.4 (read _ _ _ _ c.of_bits-z.ensures c.layer_classed.ensures) c.if-not-layer_classed.true) p.key_len p.accepted p.used_value p.depth_value
+    classed_answer a.key.now a.used a.depth s _ c.five_x-five.result _ v.row v.at v.i v.invariant.4 c.is_no_constraints.ensures c.if-is_no_constraints.false c.five_x-five.ensures
+    (classed_not a.key.now a.used a.depth s v.row v.at v.i _ _ c.loop-i-test.true c.next_start-rows.ensures c.anchors_end-end.ensures c.five_x-five.result _ v.invariant.4 (read _ _ _ _ c.of_bits-z.ensures c.layer_classed.ensures) c.if-not-layer_classed.true) p.key_len p.accepted p.used_value p.depth_value
 
 pub loop-i-preserved : goal.loop-i-preserved
 loop-i-preserved c =
@@ -38,7 +38,7 @@ loop-i-preserved c =
       w.1,
       omega (arith, c.next_start-rows.ensures),
       omega (arith, c.anchors_end-end.ensures),
-      classed-step a.key.now a.used a.depth (by a.state.horizontal) v.row v.at v.i _ _ c.loop-i-test.true c.next_start-rows.ensures c.anchors_end-end.ensures c.five_x-five.result _ w.4 (read _ _ _ _ c.of_bits-z.ensures c.layer_classed.ensures) c.if-not-layer_classed.false,
+      classed_step a.key.now a.used a.depth (by a.state.horizontal) v.row v.at v.i _ _ c.loop-i-test.true c.next_start-rows.ensures c.anchors_end-end.ensures c.five_x-five.result _ w.4 (read _ _ _ _ c.of_bits-z.ensures c.layer_classed.ensures) c.if-not-layer_classed.false,
     )
 
 pub returns : goal.returns
@@ -47,8 +47,8 @@ returns c =
     let v = c.loop-i in
     let s = by a.state.horizontal in
     let p = c.requires in
-    classed-answer a.key.now a.used a.depth s _ c.five_x-five.result _ v.row v.at v.i v.invariant.4 c.is_no_constraints.ensures c.if-is_no_constraints.false c.five_x-five.ensures
-    (classed-done a.key.now a.used a.depth s c.five_x-five.result v.i c.loop-i-test.false) p.key_len p.accepted p.used_value p.depth_value
+    classed_answer a.key.now a.used a.depth s _ c.five_x-five.result _ v.row v.at v.i v.invariant.4 c.is_no_constraints.ensures c.if-is_no_constraints.false c.five_x-five.ensures
+    (classed_done a.key.now a.used a.depth s c.five_x-five.result v.i c.loop-i-test.false) p.key_len p.accepted p.used_value p.depth_value
 
 pub five_x-five-requires : goal.five_x-five-requires
 five_x-five-requires c = let p = c.requires in omega (arith, p.key_len, p.accepted.few_channels, p.used_value)

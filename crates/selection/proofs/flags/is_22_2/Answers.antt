@@ -2,14 +2,14 @@
 use mathlib.Core.Path.{refl, sym, ◌∙◌}
 use native.Mathlib.Omega.{arith}
 use Rattle.classes.specs.Classes.{is_flc}
-use Rattle.selection.proofs.KeyNames.{some-done, some-here, some_next}
+use Rattle.selection.proofs.KeyNames.{some_done, some_here, some_next}
 use Rattle.selection.proofs.flags.is_22_2.Goals as goal
 
 pub returns-then-is_flc : goal.returns-then-is_flc
 returns-then-is_flc c =
     let a = c.args in
     let v = c.loop-i in
-    sym (some-here is_flc a.key.now a.used v.invariant.1 v.i (omega arith) (sym c.is_flc.ensures ∙ c.if-is_flc.true)) ∙ v.invariant.2
+    sym (some_here is_flc a.key.now a.used v.invariant.1 v.i (omega arith) (sym c.is_flc.ensures ∙ c.if-is_flc.true)) ∙ v.invariant.2
 
 pub loop-i-preserved : goal.loop-i-preserved
 loop-i-preserved c =
@@ -21,7 +21,7 @@ pub returns : goal.returns
 returns c =
     let a = c.args in
     let v = c.loop-i in
-    sym (some-done is_flc a.key.now a.used v.i (omega arith)) ∙ v.invariant.2
+    sym (some_done is_flc a.key.now a.used v.i (omega arith)) ∙ v.invariant.2
 
 pub loop-i-init : goal.loop-i-init
 loop-i-init c = (omega arith, c.requires, refl)

@@ -5,14 +5,14 @@ use Rattle.rules.specs.Steps.{rule_of}
 use native.Mathlib.Omega.{arith}
 use borrow.Author.Rules.{rules}
 use lib.ListN.{length}
-use Rattle.selection.proofs.KeyLayers.{flags-none, flags-more, flags-done}
+use Rattle.selection.proofs.KeyLayers.{flags_none, flags_more, flags_done}
 use Rattle.selection.proofs.flags.kept_flags.Goals as goal
 
 pub loop-i-init : goal.loop-i-init
 loop-i-init c =
     let p = c.requires in
     let a = c.args in
-    (p.key_len, omega (arith, p.accepted.few_layers, p.depth_value), omega arith, omega arith, ap length p.kept_value, flags-none a.key.now a.used a.depth a.state a.kept.now p.kept_value)
+    (p.key_len, omega (arith, p.accepted.few_layers, p.depth_value), omega arith, omega arith, ap length p.kept_value, flags_none a.key.now a.used a.depth a.state a.kept.now p.kept_value)
 
 pub loop-i-preserved : goal.loop-i-preserved
 loop-i-preserved c =
@@ -24,14 +24,14 @@ loop-i-preserved c =
       omega (arith, c.next_start-rows.ensures),
       omega (arith, c.anchors_end-end.ensures),
       search rules,
-      flags-more a.key.now a.used a.depth a.state v.row v.at v.i _ _ c.loop-i-test.true c.next_start-rows.ensures c.anchors_end-end.ensures v.kept _ _ _ _ w.5 c.flag_layer.ensures (c.rule_of-rule.ensures ∙ ap (λ (z : Float). rule_of c.is_22_2-has_flc.result c.five_x-five.result a.state a.depth v.i z) c.of_bits-z.ensures) c.is_22_2-has_flc.ensures c.five_x-five.ensures,
+      flags_more a.key.now a.used a.depth a.state v.row v.at v.i _ _ c.loop-i-test.true c.next_start-rows.ensures c.anchors_end-end.ensures v.kept _ _ _ _ w.5 c.flag_layer.ensures (c.rule_of-rule.ensures ∙ ap (λ (z : Float). rule_of c.is_22_2-has_flc.result c.five_x-five.result a.state a.depth v.i z) c.of_bits-z.ensures) c.is_22_2-has_flc.ensures c.five_x-five.ensures,
     )
 
 pub returns : goal.returns
 returns c =
     let v = c.loop-i in
     let p = c.requires in
-    flags-done _ _ _ _ v.kept v.row v.at v.i v.invariant.5 c.loop-i-test.false p.key_len p.accepted p.used_value p.depth_value
+    flags_done _ _ _ _ v.kept v.row v.at v.i v.invariant.5 c.loop-i-test.false p.key_len p.accepted p.used_value p.depth_value
 
 pub is_22_2-has_flc-requires : goal.is_22_2-has_flc-requires
 is_22_2-has_flc-requires c = let p = c.requires in omega (arith, p.key_len, p.accepted.few_channels, p.used_value)

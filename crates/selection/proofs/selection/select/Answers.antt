@@ -12,29 +12,29 @@ use Rattle.layout.specs.Steps.Accepted.{Accepted}
 use Rattle.layout.proofs.QuestionsAccepted.{accepted}
 use Rattle.region.specs.Zones.{is_default}
 use Rattle.keys.specs.InKey.{layout_in, room_in}
-use Rattle.keys.proofs.InKey.{sized, used-is, depth_is as depth-at}
+use Rattle.keys.proofs.InKey.{sized, used_is, depth_is as depth-at}
 use Rattle.layout.proofs.RoomLists.{depth_is}
 use Rattle.kept_anchors.specs.Steps.Kept.{kept_key}
 use Rattle.selection.specs.Selection.{question9}
 use Rattle.selection.specs.Steps.{kept_flags, is_set, with_layers}
 use Rattle.selection.proofs.KeyRoom.{Words}
-use Rattle.selection.proofs.KeptKey.{kept-key}
-use Rattle.selection.proofs.Answers.{nine-by-flags, default-ten, default-nine, other-room, refused-9, refused-10, answer-0, default-key, other_key}
+use Rattle.selection.proofs.KeptKey.{kept_key_lem}
+use Rattle.selection.proofs.Answers.{nine_by_flags, default_ten, default_nine, other_room, refused_9, refused_10, answer_0, default_key, other_key}
 use Rattle.layout.specs.Questions.{first_no, layout_questions}
 use Rattle.region.specs.declared.RegionSemanticState.{RegionSemanticState}
 use Rattle.selection.proofs.selection.select.Goals as goal
 
 -- ---- the key that is lent
 module _ (key : List ℕ) (long : length key ≡ 156) (none : first_no (layout_questions (layout_in key)) ≡ 0) where
-  room-accepted : Accepted (layout_in key)
-  room-accepted = let z = sized key long in accepted (layout_in key) z.channels z.layers z.rows z.anchors none
+  room_accepted : Accepted (layout_in key)
+  room_accepted = let z = sized key long in accepted (layout_in key) z.channels z.layers z.rows z.anchors none
 
-  some-layer : 1 ≤ length (room_in key).layers
-  some-layer = omega (arith, depth_is (layout_in key) (sized key long) room-accepted, room-accepted.some_layers)
+  some_layer : 1 ≤ length (room_in key).layers
+  some_layer = omega (arith, depth_is (layout_in key) (sized key long) room_accepted, room_accepted.some_layers)
 
 -- question 9 in another state, as one flag or none is set
 nine : (s : RegionSemanticState) (key : List ℕ) (flags : List Bool) (any b : Bool) → is_default s ≡ false → flags ≡ kept_flags s (room_in key) → any ≡ any_of is_set flags → any ≡ b → question9 s (room_in key) ≡ b
-nine s key flags any b other f a e = sym (nine-by-flags s (room_in key) other) ∙ ap (any_of is_set) (sym f) ∙ sym a ∙ e
+nine s key flags any b other f a e = sym (nine_by_flags s (room_in key) other) ∙ ap (any_of is_set) (sym f) ∙ sym a ∙ e
 
 -- ---- the default state
 pub returns-then-is_default : goal.returns-then-is_default
@@ -43,11 +43,11 @@ returns-then-is_default c =
     let key = c.args.key.now in
     let long : length key ≡ 156 = search rules in
     let is = sym c.is_default.ensures ∙ c.if-is_default.true in
-    let nine = default-nine s (room_in key) is (some-layer key long c.requires) in
-    let ten = default-ten s (room_in key) is in
+    let nine = default_nine s (room_in key) is (some_layer key long c.requires) in
+    let ten = default_ten s (room_in key) is in
     record {
-      value = answer-0 s key c.requires nine ten;
-      key = default-key s key c.requires nine ten is;
+      value = answer_0 s key c.requires nine ten;
+      key = default_key s key c.requires nine ten is;
     }
 
 -- ---- another state
@@ -57,8 +57,8 @@ kept_flags-requires c =
     let long : length key ≡ 156 = search rules in
     record {
       key_len = long;
-      accepted = room-accepted key long c.requires;
-      used_value = sym (used-is key long);
+      accepted = room_accepted key long c.requires;
+      used_value = sym (used_is key long);
       depth_value = sym (depth-at key long);
       kept_value = search rules;
     }
@@ -68,7 +68,7 @@ returns-then-not-any_set c =
     let s = c.args.state in
     let key = c.args.key.now in
     let other = sym c.is_default.ensures ∙ c.if-is_default.false in
-    let h = refused-9 s key c.requires (nine s key _ _ false other c.kept_flags.ensures c.any_set.ensures c.if-not-any_set.true) in
+    let h = refused_9 s key c.requires (nine s key _ _ false other c.kept_flags.ensures c.any_set.ensures c.if-not-any_set.true) in
     record {
       value = h.0;
       key = h.1;
@@ -80,8 +80,8 @@ bed_classed-requires c =
     let long : length key ≡ 156 = search rules in
     record {
       key_len = long;
-      accepted = room-accepted key long c.requires;
-      used_value = sym (used-is key long);
+      accepted = room_accepted key long c.requires;
+      used_value = sym (used_is key long);
       depth_value = sym (depth-at key long);
     }
 
@@ -91,7 +91,7 @@ returns-then-not-bed_classed c =
     let key = c.args.key.now in
     let other = sym c.is_default.ensures ∙ c.if-is_default.false in
     let yes = nine s key _ _ true other c.kept_flags.ensures c.any_set.ensures c.if-not-any_set.false in
-    let h = refused-10 s key c.requires yes (sym c.bed_classed.ensures ∙ c.if-not-bed_classed.true) in
+    let h = refused_10 s key c.requires yes (sym c.bed_classed.ensures ∙ c.if-not-bed_classed.true) in
     record {
       value = h.0;
       key = h.1;
@@ -107,10 +107,10 @@ returns c =
     let yes = nine s key _ _ true other c.kept_flags.ensures c.any_set.ensures c.if-not-any_set.false in
     let ten = sym c.bed_classed.ensures ∙ c.if-not-bed_classed.false in
     record {
-      value = answer-0 s key c.requires yes ten;
+      value = answer_0 s key c.requires yes ten;
       key = c.pack_kept.ensures
           ∙ ap (λ (f : List Bool). kept_key f key) c.kept_flags.ensures
-          ∙ kept-key key long words (room-accepted key long c.requires) _
-          ∙ ap (with_layers key) (sym (other-room s (room_in key) other))
+          ∙ kept_key_lem key long words (room_accepted key long c.requires) _
+          ∙ ap (with_layers key) (sym (other_room s (room_in key) other))
           ∙ other_key s key c.requires yes ten other;
     }

@@ -5,8 +5,8 @@ use lib.Dec.{T}
 use Rattle.lists.proofs.Loops.{long}
 use Rattle.selector.specs.Call.{Typed}
 use Rattle.selector.specs.Steps.{call_by, found_by}
-use Rattle.selector.proofs.Owned.{zs-owned, ys-owned, xs-owned}
-use Rattle.selector.proofs.Selected.{plan-refuses, plan-yes, plan-serves}
+use Rattle.selector.proofs.Owned.{zs_owned, ys_owned, xs_owned}
+use Rattle.selector.proofs.Selected.{plan_refuses, plan_yes, plan_serves}
 use Rattle.selector.proofs.call.project_outcome_with_epoch.Goals as goal
 
 pub answer_by_key-requires : goal.answer_by_key-requires
@@ -19,12 +19,12 @@ answer_by_key-requires c =
       layers = search (rules, long);
       rows = search (rules, long);
       anchors = search (rules, long);
-      zs = zs-owned c.args.l.layers lent.1.1.1.1.0.0 lent.1.1.1.1.0.1.1;
-      ys = ys-owned c.args.l.rows lent.1.1.1.1.1.1.0.0 lent.1.1.1.1.1.1.0.1.1;
-      xs = xs-owned c.args.l.anchors lent.1.1.1.1.1.1.1.0.0 lent.1.1.1.1.1.1.1.0.1.1;
+      zs = zs_owned c.args.l.layers lent.1.1.1.1.0.0 lent.1.1.1.1.0.1.1;
+      ys = ys_owned c.args.l.rows lent.1.1.1.1.1.1.0.0 lent.1.1.1.1.1.1.0.1.1;
+      xs = xs_owned c.args.l.anchors lent.1.1.1.1.1.1.1.0.0 lent.1.1.1.1.1.1.1.0.1.1;
       centre = (subst T (sym at.1.1.0.1) tt, subst T (sym at.1.1.1.0.1) tt, subst T (sym at.1.1.1.1.0.1) tt);
     } in
-    plan-yes call typed (found_by c.args.keys.now c.args.r c.args.store.now) _ c.pack.ensures _ c.plan-planned.ensures.value _ _ c.in-Wide.is _ c.plan-planned.ensures.key
+    plan_yes call typed (found_by c.args.keys.now c.args.r c.args.store.now) _ c.pack.ensures _ c.plan-planned.ensures.value _ _ c.in-Wide.is _ c.plan-planned.ensures.key
 
 pub returns-in-Refused : goal.returns-in-Refused
 returns-in-Refused c =
@@ -36,12 +36,12 @@ returns-in-Refused c =
       layers = search (rules, long);
       rows = search (rules, long);
       anchors = search (rules, long);
-      zs = zs-owned c.args.l.layers lent.1.1.1.1.0.0 lent.1.1.1.1.0.1.1;
-      ys = ys-owned c.args.l.rows lent.1.1.1.1.1.1.0.0 lent.1.1.1.1.1.1.0.1.1;
-      xs = xs-owned c.args.l.anchors lent.1.1.1.1.1.1.1.0.0 lent.1.1.1.1.1.1.1.0.1.1;
+      zs = zs_owned c.args.l.layers lent.1.1.1.1.0.0 lent.1.1.1.1.0.1.1;
+      ys = ys_owned c.args.l.rows lent.1.1.1.1.1.1.0.0 lent.1.1.1.1.1.1.0.1.1;
+      xs = xs_owned c.args.l.anchors lent.1.1.1.1.1.1.1.0.0 lent.1.1.1.1.1.1.1.0.1.1;
       centre = (subst T (sym at.1.1.0.1) tt, subst T (sym at.1.1.1.0.1) tt, subst T (sym at.1.1.1.1.0.1) tt);
     } in
-    let h = plan-refuses call typed (found_by c.args.keys.now c.args.r c.args.store.now) _ c.pack.ensures _ c.plan-planned.ensures.value _ _ c.in-Refused.is c.refused.ensures in
+    let h = plan_refuses call typed (found_by c.args.keys.now c.args.r c.args.store.now) _ c.pack.ensures _ c.plan-planned.ensures.value _ _ c.in-Refused.is c.refused.ensures in
     record {
       value = h.0;
       keys = h.1.0;
@@ -60,12 +60,12 @@ returns-in-Wide c =
       layers = search (rules, long);
       rows = search (rules, long);
       anchors = search (rules, long);
-      zs = zs-owned c.args.l.layers lent.1.1.1.1.0.0 lent.1.1.1.1.0.1.1;
-      ys = ys-owned c.args.l.rows lent.1.1.1.1.1.1.0.0 lent.1.1.1.1.1.1.0.1.1;
-      xs = xs-owned c.args.l.anchors lent.1.1.1.1.1.1.1.0.0 lent.1.1.1.1.1.1.1.0.1.1;
+      zs = zs_owned c.args.l.layers lent.1.1.1.1.0.0 lent.1.1.1.1.0.1.1;
+      ys = ys_owned c.args.l.rows lent.1.1.1.1.1.1.0.0 lent.1.1.1.1.1.1.0.1.1;
+      xs = xs_owned c.args.l.anchors lent.1.1.1.1.1.1.1.0.0 lent.1.1.1.1.1.1.1.0.1.1;
       centre = (subst T (sym at.1.1.0.1) tt, subst T (sym at.1.1.1.0.1) tt, subst T (sym at.1.1.1.1.0.1) tt);
     } in
-    let h = plan-serves call typed (found_by c.args.keys.now c.args.r c.args.store.now) _ c.pack.ensures _ c.plan-planned.ensures.value _ _ c.in-Wide.is _ c.plan-planned.ensures.key _ _ _ _ c.answer_by_key.ensures in
+    let h = plan_serves call typed (found_by c.args.keys.now c.args.r c.args.store.now) _ c.pack.ensures _ c.plan-planned.ensures.value _ _ c.in-Wide.is _ c.plan-planned.ensures.key _ _ _ _ c.answer_by_key.ensures in
     record {
       value = h.0;
       keys = h.1.0;
