@@ -76,31 +76,31 @@ unfolding cosine_series
 cosine_up_to b u = series_to_one (drop 1 even_factorials) b even_falling u
 
 -- ---- H, its half, and L
-pub H-fits : T (fits binary64 H)
-H-fits = round-fits binary64 false _ _
+pub H_fits : T (fits binary64 H)
+H_fits = round-fits binary64 false _ _
 
 half_h_fits : T (fits binary64 half_h)
 half_h_fits = div-fits binary64 H (of_int binary64 (pos 2))
 
-pub L-fits : T (fits binary64 L)
+pub L_fits : T (fits binary64 L)
 unfolding fits of_bits
-L-fits = tt
+L_fits = tt
 
-pub H-plain : T (plain H)
+pub H_plain : T (plain H)
 unfolding round
-H-plain = tt
+H_plain = tt
 
 half_h_plain : T (plain half_h)
 unfolding round div of_int
 half_h_plain = tt
 
-pub L-plain : T (plain L)
+pub L_plain : T (plain L)
 unfolding of_bits
-L-plain = tt
+L_plain = tt
 
-pub H-two-halves : mag binary64 H ≤ mag binary64 half_h + mag binary64 half_h
+pub H_two_halves : mag binary64 H ≤ mag binary64 half_h + mag binary64 half_h
 unfolding round div of_int
-H-two-halves = lit≤ tt
+H_two_halves = lit≤ tt
 
 -- ---- what a series is taken of, a up to H / 2 and its complement beyond, is up to 51/64
 abbrev pub largest_argument : Float
@@ -136,7 +136,7 @@ more x y z c h k = omega arith
 
 pub difference_up_to : (a : Float) → T (fits binary64 a) → T (plain a) → T (le a H) → T (not (le a half_h)) → UpTo binary64 half_h (H ⊖ a)
 difference_up_to a h p l n =
-    sub_up_to binary64 half_h H a half_h_fits H-fits h half_h_plain H-plain p l (more (mag binary64 H) (mag binary64 half_h) (mag binary64 a) (mag binary64 half_h) H-two-halves (above a h p n))
+    sub_up_to binary64 half_h H a half_h_fits H_fits h half_h_plain H_plain p l (more (mag binary64 H) (mag binary64 half_h) (mag binary64 a) (mag binary64 half_h) H_two_halves (above a h p n))
 
 under : (x y z c : ℕ) → x ≤ y → y + z ≤ c → x + z ≤ c
 under x y z c h k = omega arith
@@ -150,7 +150,7 @@ parts_up_to a h p l n =
 pub complement_up_to : (a : Float) → T (fits binary64 a) → T (plain a) → T (le a H) → T (not (le a half_h)) → UpTo binary64 largest_argument (complement_of a)
 complement_up_to a h p l n =
     let u = difference_up_to a h p l n in
-    add_up_to binary64 largest_argument (H ⊖ a) L largest_fits u.0 L-fits tt u.1 L-plain (parts_up_to a h p l n)
+    add_up_to binary64 largest_argument (H ⊖ a) L largest_fits u.0 L_fits tt u.1 L_plain (parts_up_to a h p l n)
 
 -- ---- a property of every a from 0 to H and of its sine, or its cosine: by one series up to H / 2, by the other at the complement beyond, and at -0, which is from 0 to H as well
 abbrev pub minus_zero : Float

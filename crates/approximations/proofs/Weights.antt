@@ -17,12 +17,12 @@ use Rattle.doubles.proofs.Differences.{UpTo}
 abbrev PI : Float
 PI = dec 3141592653589793 15
 
-PI-fits : T (fits binary64 PI)
-PI-fits = round-fits binary64 false 3141592653589793 (10 ^ 15)
+PI_fits : T (fits binary64 PI)
+PI_fits = round-fits binary64 false 3141592653589793 (10 ^ 15)
 
-PI-plain : T (plain PI)
+PI_plain : T (plain PI)
 unfolding round
-PI-plain = tt
+PI_plain = tt
 
 abbrev two_f : Float
 two_f = fin false 1 (pos 1)
@@ -31,24 +31,24 @@ two_is : from_int (pos 2) ≡ two_f
 unfolding of_int round
 two_is = refl
 
-PI-is : PI ≡ fin false 884279719003555 (negsuc 47)
+PI_is : PI ≡ fin false 884279719003555 (negsuc 47)
 unfolding round
-PI-is = refl
+PI_is = refl
 
-H-is : H ≡ fin false 884279719003555 (negsuc 48)
+H_is : H ≡ fin false 884279719003555 (negsuc 48)
 unfolding round
-H-is = refl
+H_is = refl
 
 halved : fin false 884279719003555 (negsuc 47) ⊘ two_f ≡ fin false 884279719003555 (negsuc 48)
 unfolding div round
 halved = refl
 
 half_PI : PI ⊘ two_f ≡ H
-half_PI = ap (λ (x : Float). x ⊘ two_f) PI-is ∙ halved ∙ sym H-is
+half_PI = ap (λ (x : Float). x ⊘ two_f) PI_is ∙ halved ∙ sym H_is
 
-H-plain : T (plain H)
+H_plain : T (plain H)
 unfolding round
-H-plain = tt
+H_plain = tt
 
 -- half of x, by the size of x in units
 half_at : (f : Format) (x : Float) → T (fits f x) → T (plain x) → div f x (fin false 1 (pos 1)) ≡ round f false (mag f x * 1) (2 * 2 ^ low f)
@@ -72,10 +72,10 @@ pub angle_range : (t : Float) → UpTo binary64 one64 t → T (fits binary64 (de
 angle_range t u =
     let x = PI ⊗ t in
     let h = mul-fits binary64 PI t in
-    let m = less_times binary64 PI t PI-fits PI-plain u in
-    let o : T (le (x ⊘ two_f) H) = subst (λ (z : Float). T (le (x ⊘ two_f) z)) half_PI (half_mono binary64 x PI h PI-fits m.0 PI-plain m.1) in
+    let m = less_times binary64 PI t PI_fits PI_plain u in
+    let o : T (le (x ⊘ two_f) H) = subst (λ (z : Float). T (le (x ⊘ two_f) z)) half_PI (half_mono binary64 x PI h PI_fits m.0 PI_plain m.1) in
     let c : T (clear (x ⊘ two_f)) = rw (half_at binary64 x h m.0) (round_clear binary64 (mag binary64 x * 1) (2 * 2 ^ low binary64)) in
-    let p = plain_under (x ⊘ two_f) H c H-plain o in
+    let p = plain_under (x ⊘ two_f) H c H_plain o in
     rw two_is (div-fits binary64 x two_f, zero_le_plain (x ⊘ two_f) p, o)
 
 -- ---- sums

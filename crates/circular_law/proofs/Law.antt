@@ -17,7 +17,7 @@ use Rattle.doubles.proofs.Order.{mag_mono}
 use Rattle.doubles.proofs.ExactDifferences.{sub_exact}
 use Rattle.approximations.specs.Circular.{H, half_h, L, complement_of, series, sine_series, cosine_series, sine_of, cosine_of}
 use Rattle.approximations.proofs.Laws.{sine_range, cosine_range}
-use Rattle.approximations.proofs.SeriesBounds.{H-fits, H-plain, L-fits, L-plain, largest_argument, H-two-halves, low_up_to, above, difference_up_to, parts_up_to, complement_up_to, to_one, sine_up_to, cosine_up_to, minus_zero, by_halves}
+use Rattle.approximations.proofs.SeriesBounds.{H_fits, H_plain, L_fits, L_plain, largest_argument, H_two_halves, low_up_to, above, difference_up_to, parts_up_to, complement_up_to, to_one, sine_up_to, cosine_up_to, minus_zero, by_halves}
 use Rattle.circular_law.specs.Law.{factorial, terms, parts, Within, CircularLaw}
 use Rattle.circular_law.proofs.Alternating.{side}
 use Rattle.circular_law.proofs.Steps.{Near}
@@ -150,14 +150,14 @@ module _ (a : Float) (fa : T (fits binary64 a)) (pa : T (plain a)) (l : T (le a 
   p = mag binary64 H - A + mag binary64 L
 
   order : A ≤ mag binary64 H
-  order = mag_mono binary64 a H fa H-fits pa H-plain l
+  order = mag_mono binary64 a H fa H_fits pa H_plain l
 
   turn : A + p ≡ quarter
   unfolding quarter
   turn = whole_turn A (mag binary64 H) (mag binary64 L) order
 
   exact : mag binary64 (H ⊖ a) ≡ mag binary64 H - A
-  exact = sub_exact binary64 H a H-fits fa H-plain pa order (twice (mag binary64 H) A (mag binary64 half_h) H-two-halves (above a fa pa n))
+  exact = sub_exact binary64 H a H_fits fa H_plain pa order (twice (mag binary64 H) A (mag binary64 half_h) H_two_halves (above a fa pa n))
 
   small : 5 * p ≤ 4 * scale
   small =
@@ -169,7 +169,7 @@ module _ (a : Float) (fa : T (fits binary64 a)) (pa : T (plain a)) (l : T (le a 
       let r = difference_up_to a fa pa l n in
       let b = complement_up_to a fa pa l n in
       subst (λ (z : ℕ). Apart (mag binary64 (complement_of a)) (z + mag binary64 L) (4 * eighth)) exact
-      (sum_on_doubles (H ⊖ a) L r.0 L-fits r.1 L-plain (plain_finite (complement_of a) b.1) (subst (λ (z : ℕ). z + mag binary64 L < scale) (sym exact) (below p scale scale_some small)))
+      (sum_on_doubles (H ⊖ a) L r.0 L_fits r.1 L_plain (plain_finite (complement_of a) b.1) (subst (λ (z : ℕ). z + mag binary64 L < scale) (sym exact) (below p scale scale_some small)))
 
   sine_high : WithinSine a (cosine_series (complement_of a))
   sine_high =

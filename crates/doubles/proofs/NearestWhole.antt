@@ -270,8 +270,8 @@ module _ (s : Bool) (m : ℕ) (e : ℤ) (N : ℕ) (k : Moved s (m * up e) (down 
   abbrev G : ℕ
   G = closest N (down e)
 
-  G-le : G ≤ 2 ^ 53
-  G-le = le_of_suc-le-suc (at_most G (2 ^ 53) (down e) N (down_pos e) (closest_near N (down e) (down_pos e)).1 hi)
+  G_le : G ≤ 2 ^ 53
+  G_le = le_of_suc-le-suc (at_most G (2 ^ 53) (down e) N (down_pos e) (closest_near N (down e) (down_pos e)).1 hi)
 
   unfoldable n : Float
   n = sub binary64 (add binary64 (fin s m e) shift) shift
@@ -286,7 +286,7 @@ module _ (s : Bool) (m : ℕ) (e : ℤ) (N : ℕ) (k : Moved s (m * up e) (down 
   tests : (T (lt (fin s m e) n) → N < G * down e) × (T (not (lt (fin s m e) n)) → G * down e ≤ N)
   tests =
       let z = shifted G in
-      let v = int_value z.0 (size_of G z.0 z.1 G-le) in
+      let v = int_value z.0 (size_of G z.0 z.1 G_le) in
       let t = ap (lt (fin s m e)) (n_is z.0 z.1) ∙ lt_of (fin s m e) (of_int binary64 z.0) s (m * up e) (down e) (minus z.0) (nat_abs z.0) 1 (down_pos e) (zero-lt-suc 0) (refl, refl) v in
       let b = below_moved s (m * up e) (down e) N G z.0 (down_pos e) k z.1 in
       (λ (u : T (lt (fin s m e) n)). b.0 (subst T t u), λ (u : T (not (lt (fin s m e) n))). b.1 (subst (λ (w : Bool). T (not w)) t u))
@@ -313,7 +313,7 @@ module _ (s : Bool) (m : ℕ) (e : ℤ) (N : ℕ) (k : Moved s (m * up e) (down 
       let F = floor_int s (m * up e) (down e) in
       let moved : Shifted q F = subst (λ (z : ℕ). Shifted z F) (div-eq_of_lt-le (down e) from under) (floor_moved s (m * up e) (down e) N P k) in
       let up : Shifted G (suc_ℤ F) = subst (λ (z : ℕ). Shifted z (suc_ℤ F)) (sym (e1 ∙ add-one q)) (up_one q F moved) in
-      ap (λ (y : Float). sub binary64 y (fin false 1 (pos 0))) (n_is (suc_ℤ F) up) ∙ less_one F (size_of G (suc_ℤ F) up G-le) ∙ floor_is
+      ap (λ (y : Float). sub binary64 y (fin false 1 (pos 0))) (n_is (suc_ℤ F) up) ∙ less_one F (size_of G (suc_ℤ F) up G_le) ∙ floor_is
 
   itself : T (not (lt (fin s m e) n)) → n ≡ add binary64 (floor_of binary64 (fin s m e)) (fin false 0 (pos 0))
   itself t =

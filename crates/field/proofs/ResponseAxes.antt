@@ -25,10 +25,10 @@ use Rattle.field.proofs.response.Picks.{get_or_slice, moved_none}
 
 -- ---- lists
 module _ {A : Type 0} where
-  get_d_any : (xs : List A) (i : ℕ) (d e : A) → i < length xs → get_or xs i d ≡ get_or xs i e
-  get_d_any [] i d e h = absurd (omega arith)
-  get_d_any (x ∷ xs) zero d e h = refl
-  get_d_any (x ∷ xs) (suc i) d e h = get_d_any xs i d e (omega arith)
+  get_or_any : (xs : List A) (i : ℕ) (d e : A) → i < length xs → get_or xs i d ≡ get_or xs i e
+  get_or_any [] i d e h = absurd (omega arith)
+  get_or_any (x ∷ xs) zero d e h = refl
+  get_or_any (x ∷ xs) (suc i) d e h = get_or_any xs i d e (omega arith)
 
   -- one of a list
   slice_one : (xs : List A) (i : ℕ) (d : A) → i < length xs → slice i (i + 1) xs ≡ get_or xs i d ∷ []
@@ -54,7 +54,7 @@ map-append {B = B} f (x ∷ xs) ys = ap (λ (r : List B). f x ∷ r) (map-append
 
 -- the i-th of a list that a function made
 pub get_or_mapped : {A B : Type 0} (f : A → B) (xs : List A) (i : ℕ) (d : A) (e : B) → i < length xs → get_or (map f xs) i e ≡ f (get_or xs i d)
-get_or_mapped f xs i d e h = get_d_any (map f xs) i e (f d) (rw (length-map xs f) h) ∙ get_or-map f xs i d
+get_or_mapped f xs i d e h = get_or_any (map f xs) i e (f d) (rw (length-map xs f) h) ∙ get_or-map f xs i d
 
 -- ---- a topology and flat lists that say the same
 abbrev pub layer_rows : TopologyLayer → List TopologyRow

@@ -33,9 +33,9 @@ entry_exact (k ∷ ks) t zero = leb→le k (2 ^ 53) (and_l (leb k (2 ^ 53)) (exa
 entry_exact (k ∷ ks) t (suc i) = entry_exact ks (and_r (leb k (2 ^ 53)) (exact ks) t) i
 
 -- ---- the code's constants
-pub H-is : of_bits binary64 0x3ff921fb54442d18 ≡ H
+pub H_is : of_bits binary64 0x3ff921fb54442d18 ≡ H
 unfolding of_bits round
-H-is = refl
+H_is = refl
 
 pub half_h_is : of_bits binary64 0x3fe921fb54442d18 ≡ half_h
 unfolding of_bits round div of_int

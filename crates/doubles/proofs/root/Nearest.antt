@@ -174,16 +174,16 @@ module _ (m e : ℕ) (ml : 2 ^ 52 ≤ m) (mh : m < 2 ^ 53) (el : 1022 ≤ e) (eh
       room : (b : ℕ) → b < 2 → 53 + b ≤ 64
       room b h = omega arith
 
-  M-ge : 2 ^ 52 ≤ M
-  M-ge = go (e % 2) (bit e)
+  M_ge : 2 ^ 52 ≤ M
+  M_ge = go (e % 2) (bit e)
     where
       go : (b : ℕ) → b < 2 → 2 ^ 52 ≤ m * 2 ^ b
       go zero h = omega arith
       go (suc zero) h = omega arith
       go (suc (suc b)) h = absurd (omega arith)
 
-  M-le : M + 2 ≤ 2 ^ 54
-  M-le = go (e % 2) (bit e)
+  M_le : M + 2 ≤ 2 ^ 54
+  M_le = go (e % 2) (bit e)
     where
       go : (b : ℕ) → b < 2 → m * 2 ^ b + 2 ≤ 2 ^ 54
       go zero h = omega arith
@@ -191,13 +191,13 @@ module _ (m e : ℕ) (ml : 2 ^ 52 ≤ m) (mh : m < 2 ^ 53) (el : 1022 ≤ e) (eh
       go (suc (suc b)) h = absurd (omega arith)
 
   pub root_asks : m * 2 ^ bit_and e 1 % 2 ^ 64 < 2 ^ 54
-  root_asks = lt_of_le_of_lt (le_of_eq shifted) (less M M-le)
+  root_asks = lt_of_le_of_lt (le_of_eq shifted) (less M M_le)
     where
       less : (x : ℕ) → x + 2 ≤ 2 ^ 54 → x < 2 ^ 54
       less x h = omega arith
 
-  K-lt : K e < 2046
-  K-lt = go e eh
+  K_lt : K e < 2046
+  K_lt = go e eh
     where
       go : (e : ℕ) → e < 3120 → (e - 52) / 2 < 2046
       go e h = omega arith
@@ -220,9 +220,9 @@ module _ (m e : ℕ) (ml : 2 ^ 52 ≤ m) (mh : m < 2 ^ 53) (el : 1022 ≤ e) (eh
         record {
           g = g;
           k = K e;
-          is = (made (K e) g K-lt gl gh).0;
-          lo = scale_le (M * 2 ^ 54) (m * 2 ^ e) P L whole (2 ^ 53) (from M M-ge);
-          hi = scale_over (M * 2 ^ 54) (m * 2 ^ e) P L whole (2 ^ 54) (to M M-le);
+          is = (made (K e) g K_lt gl gh).0;
+          lo = scale_le (M * 2 ^ 54) (m * 2 ^ e) P L whole (2 ^ 53) (from M M_ge);
+          hi = scale_over (M * 2 ^ 54) (m * 2 ^ e) P L whole (2 ^ 54) (to M M_le);
           under = scale_under (M * 2 ^ 54) (m * 2 ^ e) P L whole (2 * g - 1) n.0;
           over = scale_over (M * 2 ^ 54) (m * 2 ^ e) P L whole (2 * g + 1) n.1;
         }
@@ -238,18 +238,18 @@ module _ (m e : ℕ) (ml : 2 ^ 52 ≤ m) (mh : m < 2 ^ 53) (el : 1022 ≤ e) (eh
     r' = subst (λ (z : ℕ). IsRoot (z * 2 ^ 54) q) shifted r
 
     pub q_lt : q + 1 < 2 ^ 54
-    q_lt = root_lt M q M-ge M-le r'
+    q_lt = root_lt M q M_ge M_le r'
 
     b_is : K e * 2 ^ 52 % 2 ^ 64 + (q + 1) / 2 ≡ K e * 2 ^ 52 + (q + 1) / 2
-    b_is = ap (λ (z : ℕ). z + (q + 1) / 2) (mod-eq_of_lt (small (K e) K-lt))
+    b_is = ap (λ (z : ℕ). z + (q + 1) / 2) (mod-eq_of_lt (small (K e) K_lt))
       where
         small : (k : ℕ) → k < 2046 → k * 2 ^ 52 < 2 ^ 64
         small k h = omega arith
 
     pub no_nan : T (not (nan_bits binary64 (K e * 2 ^ 52 % 2 ^ 64 + (q + 1) / 2)))
-    no_nan = subst (λ (z : ℕ). T (not (nan_bits binary64 z))) (sym b_is) (made (K e) ((q + 1) / 2) K-lt (half_ge M q M-ge M-le r') (half_lt M q M-ge M-le r')).1
+    no_nan = subst (λ (z : ℕ). T (not (nan_bits binary64 z))) (sym b_is) (made (K e) ((q + 1) / 2) K_lt (half_ge M q M_ge M_le r') (half_lt M q M_ge M_le r')).1
 
     pub near : NearRoot (m * 2 ^ e) (of_bits binary64 (K e * 2 ^ 52 % 2 ^ 64 + (q + 1) / 2))
     near =
         subst (λ (z : ℕ). NearRoot (m * 2 ^ e) (of_bits binary64 z)) (sym b_is)
-        (near_digits ((q + 1) / 2) (half_ge M q M-ge M-le r') (half_lt M q M-ge M-le r') (digits_near M q M-ge M-le r'))
+        (near_digits ((q + 1) / 2) (half_ge M q M_ge M_le r') (half_lt M q M_ge M_le r') (digits_near M q M_ge M_le r'))

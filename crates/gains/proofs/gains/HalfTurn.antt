@@ -62,13 +62,13 @@ most = fin false 3602879701896397 (negsuc 55)
 abbrev least : Float
 least = fin false 7378697629483821 (negsuc 67)
 
-PI-one : PI ⊗ one64 ≡ PI
+PI_one : PI ⊗ one64 ≡ PI
 unfolding mul round
-PI-one = refl
+PI_one = refl
 
-PI-two : PI ⊘ two ≡ half
+PI_two : PI ⊘ two ≡ half
 unfolding div round
-PI-two = refl
+PI_two = refl
 
 two_above : T (lt zero64 two)
 unfolding lt
@@ -81,8 +81,8 @@ twenty_most = refl
 -- ---- the angle, for an a from 0 to 1
 half_turn_within : (a : Float) → Within a one64 → Within (PI ⊗ a ⊘ two) half
 half_turn_within a w =
-    let x = product_within PI a one64 PI tt w.0 tt tt w.1 PI-one in
-    quotient_within two (PI ⊗ a) PI half tt two_above x.0 tt tt x.1 PI-two
+    let x = product_within PI a one64 PI tt w.0 tt tt w.1 PI_one in
+    quotient_within two (PI ⊗ a) PI half tt two_above x.0 tt tt x.1 PI_two
 
 -- from 0 to y
 from0 : (t y : Float) → T (plain y) → Within t y → T (le zero64 t) × T (le t y)
