@@ -30,10 +30,10 @@ fn alternating_series(factorials: &[u64], y: f64) -> f64
     requires factorials_exact { T (exact factorials.now) }
     ensures { result ≡ series y factorials.now }
 {
-    let mut i = factorials.len() - 1;
-    let mut r = 1.0 / (factorials[i] as f64);
-    while 0 < i {
-        i -= 1;
+    let last = factorials.len() - 1;
+    let mut r = 1.0 / (factorials[last] as f64);
+    // Not a fold: its closure would have to show that each factorial is exact as a double.
+    for i in (0..last).rev() {
         r = 1.0 / (factorials[i] as f64) - y * r;
     }
     r
@@ -67,7 +67,8 @@ fn complement(a: f64) -> f64
     (H - a) + L
 }
 
-// The sine of a, meant for a from 0 to H and defined by the same formula everywhere.
+// The sine of a, meant for a from 0 to H and defined by the same formula everywhere. Written out, as
+// `cosine` is: a function for both would need a contract longer than the two bodies.
 pub fn sine(a: f64) -> f64
     ensures { result ≡ sine_of a }
 {

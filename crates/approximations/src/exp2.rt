@@ -1,7 +1,7 @@
 // The approximation of 2 ^ x, with the coefficients and the order of operations of extent.rs.
-ghost use Rattle.std.specs.Prelude.{◌≡◌, true, false, T, pos};
-ghost use Rattle.std.specs.Float.{binary64, fin};
-ghost use Rattle.std.specs.Float.Ieee.{lt, le, to_signed};
+ghost use Rattle.std.specs.Prelude.{◌≡◌, T};
+ghost use Rattle.std.specs.Float.{binary64};
+ghost use Rattle.std.specs.Float.Ieee.{to_signed};
 ghost use Rattle.doubles.specs.Power.{pow2_of};
 ghost use Rattle.approximations.specs.Exp2.{polynomial_of, finite_or_zero, NormalExponent, exp2_of};
 ghost use Rattle.approximations.specs.Powers.{in_exponents};
@@ -35,13 +35,12 @@ fn power_near(n: f64) -> f64
     requires { NormalExponent n }
     ensures { result ≡ pow2_of binary64 (to_signed 31 n) }
 {
-    f64::from_bits(f64::to_bits(n + BIAS) << 52)
+    f64::from_bits((n + BIAS).to_bits() << 52)
 }
 
 // For a value from -1022 up and below 1023, of which the product is always finite.
 pub(crate) fn exp2_near(value: f64) -> f64
-    requires low_bound { T (le (fin true 511 (pos 1)) value) }
-    requires high_bound { T (lt value (fin false 1023 (pos 0))) }
+    requires { T (in_exponents value) }
     ensures { result ≡ exp2_of value }
 {
     let n = floor_near(value);
@@ -74,7 +73,7 @@ fn exp2_rest(value: f64) -> f64
 pub fn approx_exp2(value: f64) -> f64
     ensures { result ≡ exp2_of value }
 {
-    if (value >= -1022.0) & (value < 1023.0) {
+    if is_near(value) {
         exp2_near(value)
     } else {
         exp2_rest(value)

@@ -27,7 +27,7 @@ pub(crate) fn log2_normal(value: f64) -> f64
     requires { T (in_normal value) }
     ensures { result ≡ log2_of value }
 {
-    let b: u64 = f64::to_bits(value);
+    let b = value.to_bits();
     let mantissa = f64::from_bits((b & 0xf_ffff_ffff_ffff) | 0x3fe0_0000_0000_0000);
     log2_of(mantissa, ((b >> 52) as f64) - 1022.0)
 }
@@ -47,7 +47,7 @@ fn log2_rest(value: f64) -> f64
         let exponent = floor_log2(value) + 1;
         log2_of(value / pow2(exponent), exponent as f64)
     } else {
-        -1.0 / 0.0
+        f64::NEG_INFINITY
     }
 }
 
@@ -56,7 +56,7 @@ fn log2_rest(value: f64) -> f64
 pub fn approx_log2(value: f64) -> f64
     ensures { result ≡ log2_of value }
 {
-    if (value >= LEAST) & (value < MOST) {
+    if is_normal(value) {
         log2_normal(value)
     } else {
         log2_rest(value)

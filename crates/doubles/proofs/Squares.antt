@@ -4,7 +4,7 @@ use mathlib.Core.Bool.{beq}
 use lib.Dec.{nleb→lt}
 use lib.Bits.{bit_and, bit_or, and_mask, or_shifted_r}
 use lib.Count.{count_leading_zeros, leading_top}
-use lib.Ieee.{Float, nan, inf, fin, binary64, up, down, odd, fits, is_nan, lt, eq, div, of_fields, of_bits, to_bits}
+use lib.Ieee.{Float, nan, inf, fin, binary64, up, down, odd, fits, is_nan, lt, eq, of_fields, to_bits}
 use lib.Ieee.Fits.{down_pos, up_pos, and_l, eq→eqb}
 use lib.Ieee.Bits.{of_bits-to_bits, cond_no}
 use lib.Ieee.Exact.{HasValue, odd_sign}
@@ -183,14 +183,6 @@ subnormal b X s o e = go s.1
     go (inr p) = absurd (not_suc (b / 2 ^ 52) p.0 e p.1)
 
 -- ---- the tests on x
-pub inf_is : div binary64 (of_bits binary64 0x3ff0_0000_0000_0000) (of_bits binary64 0) ≡ inf false
-unfolding div of_bits
-inf_is = refl
-
-pub nan_is : div binary64 (of_bits binary64 0) (of_bits binary64 0) ≡ nan
-unfolding div of_bits
-nan_is = refl
-
 pub over_no_nan : (x : Float) → T (lt zero_f x) → T (not (is_nan x))
 unfolding lt is_nan
 over_no_nan nan p = absurd p

@@ -7,7 +7,7 @@ pub fn of_bits(b: u64) -> f64
     ensures { result ≡ from_bits binary64 b }
 {
     if b % 0x8000_0000_0000_0000 > 0x7ff0_0000_0000_0000 {
-        0.0 / 0.0
+        f64::NAN
     } else {
         f64::from_bits(b)
     }
@@ -17,9 +17,9 @@ pub fn of_bits(b: u64) -> f64
 pub fn bits_of(x: f64) -> u64
     ensures { result ≡ to_bits binary64 x }
 {
-    if x != x {
+    if x.is_nan() {
         0x7ff8_0000_0000_0000
     } else {
-        f64::to_bits(x)
+        x.to_bits()
     }
 }

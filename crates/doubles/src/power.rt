@@ -8,7 +8,7 @@ pub fn pow2(n: i64) -> f64
     ensures { result ≡ pow2_of binary64 n }
 {
     if n > 1023 {
-        f64::from_bits(0x7ff0_0000_0000_0000)
+        f64::INFINITY
     } else if n >= -1022 {
         f64::from_bits(((n + 1023) as u64) << 52)
     } else if n >= -1074 {
@@ -18,11 +18,12 @@ pub fn pow2(n: i64) -> f64
     }
 }
 
-// The same for a 32-bit n, as `powi` takes it.
+// The same for a 32-bit n, as `powi` takes it. No type parameter of `pow2`: its clause would have to
+// say which number an N is.
 pub fn pow2_i32(n: i32) -> f64
     ensures { result ≡ pow2_of binary64 n }
 {
-    pow2(n as i64)
+    pow2(i64::from(n))
 }
 
 // The n with 2 ^ n <= |x| < 2 ^ (n + 1), subnormals included. 0 where there is none: for zeros,
@@ -30,16 +31,16 @@ pub fn pow2_i32(n: i32) -> f64
 pub fn floor_log2(x: f64) -> i64
     ensures { result ≡ floor_log2 x }
 {
-    if x != x {
+    if x.is_nan() {
         return 0;
     }
-    let b: u64 = f64::to_bits(x) & 0x7fff_ffff_ffff_ffff;
-    let e: u64 = b >> 52;
+    let b = x.to_bits() & 0x7fff_ffff_ffff_ffff;
+    let e = b >> 52;
     if e == 0 {
         if b == 0 {
             return 0;
         }
-        return -1011 - (u64::leading_zeros(b) as i64);
+        return -1011 - i64::from(b.leading_zeros());
     }
     if e == 2047 {
         return 0;

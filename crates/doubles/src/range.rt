@@ -7,7 +7,7 @@ ghost use Rattle.doubles.specs.Range.{is_between, clamp_to};
 pub fn is_finite(x: f64) -> bool
     ensures { result ≡ finite x }
 {
-    (x > -1.0 / 0.0) & (x < 1.0 / 0.0)
+    x.is_finite()
 }
 
 // Whether x is from low to high. NaN is from nothing to nothing.

@@ -21,21 +21,26 @@ struct Part {
     r: u64,
 }
 
-// One binary digit more, with the next two digits d of n.
-fn step(a: Part, d: u64) -> Part
-    requires q_bound { a.q < 2 ^ 53 }
-    requires r_bound { a.r ≤ 2 * a.q }
-    requires d_bound { d < 4 }
-    ensures { Steps a.q a.r d result.q result.r }
-{
-    let s = a.r * 4 + d;
-    let t = a.q * 4 + 1;
-    if s < t {
-        Part { q: a.q * 2, r: s }
-    } else {
-        Part {
-            q: a.q * 2 + 1,
-            r: s - t,
+impl Part {
+    // One binary digit more, with the next two digits d of n.
+    fn step(self, d: u64) -> Part
+        requires q_bound { self.q < 2 ^ 53 }
+        requires r_bound { self.r ≤ 2 * self.q }
+        requires d_bound { d < 4 }
+        ensures { Steps self.q self.r d result.q result.r }
+    {
+        let s = self.r * 4 + d;
+        let t = self.q * 4 + 1;
+        if s < t {
+            Part {
+                q: self.q * 2,
+                r: s,
+            }
+        } else {
+            Part {
+                q: self.q * 2 + 1,
+                r: s - t,
+            }
         }
     }
 }
@@ -46,32 +51,13 @@ fn digits(m: u64) -> u64
     ensures { IsRoot (m * 2 ^ 54) result }
 {
     let mut a = Part { q: 0, r: 0 };
-    let mut i = 0u64;
-    while i < 27 {
-        a = step(a, (m >> (52 - 2 * i)) & 3);
-        i += 1;
+    for i in 0..27u64 {
+        a = a.step((m >> (52 - 2 * i)) & 3);
     }
-    let mut j = 0u64;
-    while j < 27 {
-        a = step(a, 0);
-        j += 1;
+    for _j in 0..27u64 {
+        a = a.step(0);
     }
     a.q
-}
-
-// The root of m * 2 ^ e squares of the least double, to the nearest double. k is the weight of its
-// last digit, and q its 53 digits and one more. The root is never halfway between two doubles, so
-// the last digit of q says which way to go.
-fn rounded(m: u64, e: u64) -> f64
-    requires m_low { 2 ^ 52 ≤ m }
-    requires m_bound { m < 2 ^ 53 }
-    requires e_low { 1022 ≤ e }
-    requires e_bound { e < 3120 }
-    ensures { NearRoot (m * 2 ^ e) result }
-{
-    let k = (e - 52) >> 1;
-    let q = digits(m << (e & 1));
-    f64::from_bits((k << 52) + ((q + 1) >> 1))
 }
 
 // 1 / √x within 4 %, by the pattern b of x.
@@ -131,31 +117,48 @@ fn is_root(m: u64, g: u64) -> bool
     let d = 2 * a * c;
     let hi = a * a + d / 0x400_0000;
     let lo = (d % 0x400_0000) * 0x400_0000 + c * c;
-    if (hi <= m + 4) & (m <= hi + 4) {
-        let w = (m + 4 - hi) * 0x10_0000_0000_0000;
-        (lo + 0x40_0000_0000_0000 < w + g) & (w <= lo + g + 0x40_0000_0000_0000)
-    } else {
-        false
+    if (hi > m + 4) | (m > hi + 4) {
+        return false;
     }
+    let w = (m + 4 - hi) * 0x10_0000_0000_0000;
+    (lo + 0x40_0000_0000_0000 < w + g) & (w <= lo + g + 0x40_0000_0000_0000)
 }
 
-// Whether s is the root that `rounded` gives, tested exactly.
-fn is_rounded(m: u64, e: u64, s: f64) -> bool
-    requires m_low { 2 ^ 52 ≤ m }
-    requires m_bound { m < 2 ^ 53 }
-    requires e_low { 1022 ≤ e }
-    requires e_bound { e < 3120 }
-    ensures { T result → NearRoot (m * 2 ^ e) s }
-{
-    if s > 0.0 {
-        let b: u64 = f64::to_bits(s);
-        if b >> 52 == (e - 50) >> 1 {
-            is_root(m << (e & 1), (b & 0xf_ffff_ffff_ffff) | 0x10_0000_0000_0000)
-        } else {
-            false
+// m * 2 ^ e squares of the least double. m has 53 digits.
+#[derive(Clone, Copy)]
+struct Squares {
+    m: u64,
+    e: u64,
+    ghost m_low: { 2 ^ 52 ≤ m },
+    ghost m_bound: { m < 2 ^ 53 },
+    ghost e_low: { 1022 ≤ e },
+    ghost e_bound: { e < 3120 },
+}
+
+impl Squares {
+    // The root, to the nearest double. k is the weight of its last digit, and q its 53 digits and one
+    // more. The root is never halfway between two doubles, so the last digit of q says which way to go.
+    fn rounded(self) -> f64
+        ensures { NearRoot (self.m * 2 ^ self.e) result }
+    {
+        let k = (self.e - 52) >> 1;
+        let q = digits(self.m << (self.e & 1));
+        f64::from_bits((k << 52) + ((q + 1) >> 1))
+    }
+
+    // Whether s is the root that `rounded` gives, tested exactly.
+    fn is_rounded(self, s: f64) -> bool
+        ensures { T result → NearRoot (self.m * 2 ^ self.e) s }
+    {
+        if !(s > 0.0) {
+            return false;
         }
-    } else {
-        false
+        let b = s.to_bits();
+        b >> 52 == (self.e - 50) >> 1
+            && is_root(
+                self.m << (self.e & 1),
+                (b & 0xf_ffff_ffff_ffff) | 0x10_0000_0000_0000,
+            )
     }
 }
 
@@ -165,20 +168,22 @@ fn sqrt_positive(x: f64) -> f64
     requires x_finite { T (finite x) }
     ensures { NearRoot (square_units x) result }
 {
-    let b: u64 = f64::to_bits(x);
-    let e: u64 = b >> 52;
+    let b = x.to_bits();
+    let e = b >> 52;
     if e > 0 {
-        let m = (b & 0xf_ffff_ffff_ffff) | 0x10_0000_0000_0000;
-        let k = e + 1073;
+        let v = Squares {
+            m: (b & 0xf_ffff_ffff_ffff) | 0x10_0000_0000_0000,
+            e: e + 1073,
+        };
         let s = guess(x, b);
-        if is_rounded(m, k, s) {
-            s
-        } else {
-            rounded(m, k)
-        }
+        if v.is_rounded(s) { s } else { v.rounded() }
     } else {
-        let n: u64 = (u64::leading_zeros(b) as u64) - 11;
-        rounded(b << n, 1074 - n)
+        let n = u64::from(b.leading_zeros()) - 11;
+        let v = Squares {
+            m: b << n,
+            e: 1074 - n,
+        };
+        v.rounded()
     }
 }
 
@@ -190,10 +195,14 @@ pub fn sqrt(x: f64) -> f64
     ensures nearest { T (lt zero64 x) → T (finite x) → NearRoot (square_units x) result }
 {
     if x > 0.0 {
-        if x < 1.0 / 0.0 { sqrt_positive(x) } else { x }
+        if x < f64::INFINITY {
+            sqrt_positive(x)
+        } else {
+            x
+        }
     } else if x == 0.0 {
         x
     } else {
-        0.0 / 0.0
+        f64::NAN
     }
 }

@@ -12,7 +12,8 @@ pub const SHIFT: f64 = 6755399441055744.0;
 // is rounded to the nearest whole number, and the difference is exact.
 pub fn floor_near(x: f64) -> f64
     ensures value { result ≡ floor_near x }
-    ensures near { T (le (fin true 1 (pos 51)) x) → T (lt x (fin false 1 (pos 51))) → result ≡ add binary64 (floor_of binary64 x) zero64 }
+    ensures near { T (le (fin true 1 (pos 51)) x) → T (lt x (fin false 1 (pos 51)))
+        → result ≡ add binary64 (floor_of binary64 x) zero64 }
 {
     let n = (x + SHIFT) - SHIFT;
     if n > x { n - 1.0 } else { n }

@@ -1,7 +1,11 @@
 pub mod Loops
 pub mod Tests
+pub mod Places
 pub mod Filter
 pub mod Chunks
 pub mod Fill
+pub mod FromFn
+pub mod Sums
 pub mod Takes
 pub mod Zips
+pub mod Arrays

@@ -5,22 +5,6 @@ abbrev pub bit : Bool → ℕ
 bit true = 1
 bit false = 0
 
-module _ {A : Type 0} (p : A → Bool) where
-  -- each of a list passes p
-  abbrev pub all_of : List A → Bool
-  all_of [] = true
-  all_of (x ∷ xs) = p x && all_of xs
-
-  -- some of a list passes p
-  abbrev pub any_of : List A → Bool
-  any_of [] = false
-  any_of (x ∷ xs) = p x || any_of xs
-
-  -- those of a list that pass p, in order
-  abbrev pub filtered : List A → List A
-  filtered [] = []
-  filtered (x ∷ xs) = cond (p x) (x ∷ filtered xs) (filtered xs)
-
 -- n is one of a list
 abbrev pub elem : ℕ → List ℕ → Bool
 elem n [] = false

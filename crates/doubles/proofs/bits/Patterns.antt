@@ -1,38 +1,31 @@
 -- Which values and patterns are NaN, as the code tests it. Assumes nothing.
-use Rattle.std.proofs.Common.{◌≡◌, ℕ, ◌%◌, ◌^◌, ◌<◌, ◌≤◌, Bool, true, false, not, T, sym, refl, ap, ◌∙◌, subst, lt→ltb}
+use Rattle.std.proofs.Common.{◌≡◌, ℕ, ◌%◌, ◌^◌, ◌<◌, ◌≤◌, Bool, not, T, sym, refl, ap, ◌∙◌, subst, lt→ltb}
 use lib.Arith.{le→nltb}
-use lib.Ieee.{Float, nan, inf, fin, binary64, is_nan, ne, div, of_bits, nan_bits, to_bits}
+use lib.Ieee.{Float, nan, inf, fin, binary64, is_nan, of_bits, nan_bits, to_bits}
 use lib.Ieee.Bits.{nan_bits_is, nan_bits_above}
-use lib.Ieee.Compare.{differs_from_itself, nan_differs}
 
--- ---- x ≠ x
-pub same_no_nan : (x : Float) → ne x x ≡ false → T (not (is_nan x))
-unfolding is_nan
-same_no_nan nan e = absurd (subst T (sym nan_differs ∙ e) tt)
-same_no_nan (inf s) e = tt
-same_no_nan (fin s m d) e = tt
-
-nan_pattern : to_bits binary64 nan ≡ 0x7ff8_0000_0000_0000
-unfolding to_bits
-nan_pattern = refl
-
-pub differs_pattern : (x : Float) → ne x x ≡ true → 0x7ff8_0000_0000_0000 ≡ to_bits binary64 x
-differs_pattern x e = sym (ap (to_bits binary64) (differs_from_itself x (subst T (sym e) tt)) ∙ nan_pattern)
-
--- ---- the pattern less its sign, against that of the infinity
-pub no_nan : (b : ℕ) → b % 2 ^ 63 ≤ 0x7ff0_0000_0000_0000 → T (not (nan_bits binary64 b))
-no_nan b h = subst (λ (z : Bool). T (not z)) (sym (nan_bits_above binary64 b)) (le→nltb 0x7ff0_0000_0000_0000 (b % 2 ^ 63) h)
-
-is_nan_lem : (x : Float) → T (is_nan x) → x ≡ nan
+-- ---- NaN
+pub is_nan_lem : (x : Float) → T (is_nan x) → x ≡ nan
 unfolding is_nan
 is_nan_lem nan t = refl
 is_nan_lem (inf s) t = absurd t
 is_nan_lem (fin s m e) t = absurd t
 
+nan_pattern : to_bits binary64 nan ≡ 0x7ff8_0000_0000_0000
+unfolding to_bits
+nan_pattern = refl
+
+pub pattern_of_nan : (x : Float) → T (is_nan x) → 0x7ff8_0000_0000_0000 ≡ to_bits binary64 x
+pattern_of_nan x t = sym (ap (to_bits binary64) (is_nan_lem x t) ∙ nan_pattern)
+
+-- ---- the pattern less its sign, against that of the infinity
+pub no_nan : (b : ℕ) → b % 2 ^ 63 ≤ 0x7ff0_0000_0000_0000 → T (not (nan_bits binary64 b))
+no_nan b h = subst (λ (z : Bool). T (not z)) (sym (nan_bits_above binary64 b)) (le→nltb 0x7ff0_0000_0000_0000 (b % 2 ^ 63) h)
+
 pub above_nan : (b : ℕ) → 0x7ff0_0000_0000_0000 < b % 2 ^ 63 → of_bits binary64 b ≡ nan
 above_nan b h = is_nan_lem (of_bits binary64 b) (subst T (nan_bits_is binary64 b) (subst T (sym (nan_bits_above binary64 b)) (lt→ltb 0x7ff0_0000_0000_0000 (b % 2 ^ 63) h)))
 
 -- 0 / 0
-pub zero_by_zero : div binary64 (of_bits binary64 0) (of_bits binary64 0) ≡ nan
-unfolding div of_bits
-zero_by_zero = refl
+pub nan_is : of_bits binary64 0x7ff8_0000_0000_0000 ≡ nan
+unfolding of_bits
+nan_is = refl

@@ -1,8 +1,8 @@
 -- The arithmetic of the digit by digit root. Assumes nothing.
-use Rattle.std.proofs.Common.{◌≡◌, ℕ, suc, ◌+◌, ◌-◌, ◌*◌, ◌/◌, ◌%◌, ◌^◌, ◌<◌, ◌≤◌, sym, ap, ◌∙◌, subst, le_of_eq, le_refl, lt_of_lt_of_le, add-zero, mul_assoc, pow-suc, div-add-mod', mul-one, div-one, add-one, arith, lit<, pow_mono, shr-shr}
-use native.Mathlib.Nat.{pow-succ', div-eq_of_lt}
+use Rattle.std.proofs.Common.{◌≡◌, ℕ, suc, ◌+◌, ◌-◌, ◌*◌, ◌/◌, ◌%◌, ◌^◌, ◌<◌, ◌≤◌, sym, ap, ◌∙◌, subst, le_of_eq, lt_of_lt_of_le, add-zero, mul_assoc, pow-suc, div-add-mod', add-one, arith, pow_mono, shr-shr}
+use native.Mathlib.Nat.{pow-succ'}
 use lib.Bits.{bit_and, and_mask}
-use Rattle.doubles.specs.Root.{Steps, IsRoot}
+use Rattle.doubles.specs.Root.{Steps}
 
 -- the root so far of the number P, in at most k digits
 pub record So (P k q r : ℕ) : Type 0 where
@@ -35,12 +35,6 @@ next m i h =
     two : (i : ℕ) → i < 27 → 52 - 2 * i ≡ 54 - 2 * (i + 1)
     two i h = omega arith
 
-pub so_root : (n k q r : ℕ) → So n k q r → IsRoot n q
-so_root n k q r a = let e = a.sum in let h = a.rest in (omega arith, omega arith)
-
-pub so_start : (m : ℕ) → m < 2 ^ 54 → So (m / 2 ^ 54) 0 0 0
-so_start m h = record { sum = sym (div-eq_of_lt h); rest = le_refl 0; few = lit< tt }
-
 pub so_room : (P k q r : ℕ) → So P k q r → k ≤ 53 → q < 2 ^ 53
 so_room P k q r a h = lt_of_lt_of_le a.few (pow_mono h)
 
@@ -55,9 +49,3 @@ so_zeros m j q r q' r' a s =
   where
     more : (j : ℕ) → suc (27 + j) ≡ 27 + (j + 1)
     more j = omega arith
-
-pub so_half : (m i q r : ℕ) → i ≡ 27 → So (m / 2 ^ (54 - 2 * i)) i q r → So (m * 1) 27 q r
-so_half m i q r e a = subst (λ (z : ℕ). So z 27 q r) (div-one m ∙ sym (mul-one m)) (subst (λ (k : ℕ). So (m / 2 ^ (54 - 2 * k)) k q r) e a)
-
-pub so_whole : (m j q r : ℕ) → j ≡ 27 → So (m * 4 ^ j) (27 + j) q r → IsRoot (m * 2 ^ 54) q
-so_whole m j q r e a = so_root (m * 2 ^ 54) 54 q r (subst (λ (k : ℕ). So (m * 4 ^ k) (27 + k) q r) e a)

@@ -165,9 +165,6 @@ module _ (m e : ℕ) (ml : 2 ^ 52 ≤ m) (mh : m < 2 ^ 53) (el : 1022 ≤ e) (eh
   bit e = omega arith
 
   -- what the shift gives
-  pub shift_lt : bit_and e 1 < 64
-  shift_lt = lt_of_le_of_lt (le_of_eq (and_mask e 1)) (lt_of_lt_of_le (bit e) (lit≤ tt))
-
   pub shifted : m * 2 ^ bit_and e 1 % 2 ^ 64 ≡ M
   shifted = ap (λ (z : ℕ). m * 2 ^ z % 2 ^ 64) (and_mask e 1) ∙ shl_exact 53 (e % 2) 64 mh (room (e % 2) (bit e))
     where
@@ -236,9 +233,6 @@ module _ (m e : ℕ) (ml : 2 ^ 52 ≤ m) (mh : m < 2 ^ 53) (el : 1022 ≤ e) (eh
   module _ (q : ℕ) (r : IsRoot (m * 2 ^ bit_and e 1 % 2 ^ 64 * 2 ^ 54) q) where
     r' : IsRoot (M * 2 ^ 54) q
     r' = subst (λ (z : ℕ). IsRoot (z * 2 ^ 54) q) shifted r
-
-    pub q_lt : q + 1 < 2 ^ 54
-    q_lt = root_lt M q M_ge M_le r'
 
     b_is : K e * 2 ^ 52 % 2 ^ 64 + (q + 1) / 2 ≡ K e * 2 ^ 52 + (q + 1) / 2
     b_is = ap (λ (z : ℕ). z + (q + 1) / 2) (mod-eq_of_lt (small (K e) K_lt))

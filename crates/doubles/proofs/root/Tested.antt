@@ -1,12 +1,11 @@
 -- What the proofs of `seed`, `is_root` and `is_rounded` cite: the square of g in two parts, and that the test holds of the root to the nearest alone. Assumes nothing.
-use Rattle.std.proofs.Common.{◌≡◌, ℕ, zero, suc, ◌+◌, ◌-◌, ◌*◌, ◌/◌, ◌%◌, ◌^◌, ◌<◌, ◌≤◌, true, not, ◌&&◌, T, eqb, ltb, leb, sym, ap, ◌∙◌, subst, lt_of_le_of_lt, mul-le-mul, mul-le-mul_left, div-add-mod', arith, eqb→eq, ltb→lt, leb→le}
+use Rattle.std.proofs.Common.{◌≡◌, ℕ, zero, suc, ◌+◌, ◌-◌, ◌*◌, ◌/◌, ◌%◌, ◌^◌, ◌<◌, ◌≤◌, not, ◌&&◌, T, eqb, ltb, leb, sym, ap, ◌∙◌, subst, div-add-mod', arith, eqb→eq, ltb→lt, leb→le}
 use lib.Dec.{not_T}
 use lib.Bits.{bit_and}
 use lib.Ieee.{Float, binary64, fits, of_bits, to_bits, nan_bits}
 use lib.Ieee.Bits.{of_bits-to_bits}
 use lib.Ieee.Fits.{and_l, and_r}
 use Rattle.doubles.specs.Root.{IsNearestRoot, NearRoot}
-use Rattle.doubles.proofs.Floors.{yes}
 use Rattle.doubles.proofs.root.Nearest.{Near, shifted, near_digits}
 use Rattle.doubles.proofs.Squares.{digits53, digits_are}
 
@@ -26,39 +25,9 @@ square_is g = ap (λ (z : ℕ). z * z) (sym (div-add-mod' g (2 ^ 26))) ∙ expan
     expand : (a c q r : ℕ) → 2 * a * c ≡ q * 2 ^ 26 + r → (a * 2 ^ 26 + c) * (a * 2 ^ 26 + c) ≡ (a * a + q) * 2 ^ 52 + (r * 2 ^ 26 + c * c)
     expand a c q r e = omega arith
 
-module _ (g : ℕ) (G : g < 2 ^ 53) where
-  upper_le : g / 2 ^ 26 ≤ 2 ^ 27 - 1
-  upper_le = omega arith
-
-  lower_le : g % 2 ^ 26 ≤ 2 ^ 26 - 1
-  lower_le = omega arith
-
-  pub upper_square : g / 2 ^ 26 * (g / 2 ^ 26) < 2 ^ 54
-  upper_square = lt_of_le_of_lt (mul-le-mul upper_le upper_le) (omega arith)
-
-  pub lower_square : g % 2 ^ 26 * (g % 2 ^ 26) < 2 ^ 52
-  lower_square = lt_of_le_of_lt (mul-le-mul lower_le lower_le) (omega arith)
-
-  pub cross_lt : cross g < 2 ^ 54
-  cross_lt = lt_of_le_of_lt (mul-le-mul (mul-le-mul_left 2 upper_le) lower_le) (omega arith)
-
-  pub hi_lt : hi g < 2 ^ 55
-  hi_lt = let s = upper_square in let t = cross_lt in omega arith
-
-  pub lo_lt : lo g < 2 ^ 53
-  lo_lt = let s = lower_square in omega arith
-
 -- ---- the tests, as the code has them: m and hi are at most 4 apart, and w is (m + 4 - hi) * 2 ^ 52
-pub close : (m H : ℕ) → leb H (m + 4) && leb m (H + 4) ≡ true → (H ≤ m + 4) × (m ≤ H + 4)
-close m H e =
-    let t = yes e in
-    (leb→le H (m + 4) (and_l (leb H (m + 4)) (leb m (H + 4)) t), leb→le m (H + 4) (and_r (leb H (m + 4)) (leb m (H + 4)) t))
-
 abbrev pub rest : ℕ → ℕ → ℕ
 rest m H = (m + 4 - H) * 2 ^ 52
-
-pub rest_le : (m H : ℕ) → m ≤ H + 4 → rest m H ≤ 8 * 2 ^ 52
-rest_le m H h = omega arith
 
 pub tested : (m g : ℕ) → hi g ≤ m + 4 → T (ltb (lo g + 2 ^ 54) (rest m (hi g) + g) && leb (rest m (hi g)) (lo g + g + 2 ^ 54)) → IsNearestRoot (m * 2 ^ 52) g
 tested m g h t =
@@ -90,9 +59,6 @@ nearest_near M (suc h) o r = subst (λ (d : ℕ). (d * d < M * 2 ^ 54) × (M * 2
 
     at : (n N h : ℕ) → N ≡ 4 * n → suc h * suc h < n + suc h → n ≤ suc h * suc h + suc h → ((2 * h + 1) * (2 * h + 1) < N) × (N < (2 * suc h + 1) * (2 * suc h + 1))
     at n N h e u o = omega arith
-
-pub digits53_lt : (b : ℕ) → digits53 b < 2 ^ 53
-digits53_lt b = rw (digits_are b) (omega arith)
 
 module _ (m e : ℕ) (ml : 2 ^ 52 ≤ m) (mh : m < 2 ^ 53) (el : 1022 ≤ e) (eh : e < 3120) where
   pattern_near : (b : ℕ) → b / 2 ^ 52 ≡ (e - 50) / 2 → IsNearestRoot (m * 2 ^ bit_and e 1 % 2 ^ 64 * 2 ^ 52) (digits53 b) → NearRoot (m * 2 ^ e) (of_bits binary64 b)

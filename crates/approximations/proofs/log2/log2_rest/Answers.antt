@@ -2,7 +2,6 @@
 use Rattle.std.proofs.Common.{◌≡◌, Bool, true, false, ◌&&◌, T, sym, ◌∙◌, subst}
 use lib.Ieee.{lt, of_bits}
 use Rattle.doubles.specs.Arithmetic.{zero64}
-use Rattle.doubles.proofs.Finite.{minus_inf_is}
 use Rattle.doubles.proofs.Floors.{yes}
 use Rattle.approximations.proofs.log2.Cases.{Next, next, log2_none}
 use Rattle.approximations.proofs.log2.log2_rest.Goals as goal
@@ -23,4 +22,4 @@ returns-then-is_finite-value c =
 
 pub returns-else-is_finite-value : goal.returns-else-is_finite-value
 unfolding of_bits
-returns-else-is_finite-value c = minus_inf_is ∙ log2_none c.args.value (subst (λ (t : Bool). t && lt zero64 c.args.value ≡ false) c.is_finite.ensures c.if-is_finite-value.false)
+returns-else-is_finite-value c = log2_none c.args.value (subst (λ (t : Bool). t && lt zero64 c.args.value ≡ false) c.is_finite.ensures c.if-is_finite-value.false)

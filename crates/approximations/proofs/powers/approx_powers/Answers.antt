@@ -1,10 +1,6 @@
--- `approximations::powers::approx_powers` meets its contract. Assumes nothing.
-use Rattle.std.proofs.Common.{length, ◌∙◌, arith}
-use Rattle.approximations.specs.Powers.{power_of}
-use Rattle.approximations.proofs.FirstMapped.{first_all}
+-- `approximations::powers::approx_powers` meets its contract: one pass after the other. Assumes nothing.
+use Rattle.std.proofs.lemmas.Simd.{map-map}
 use Rattle.approximations.proofs.powers.approx_powers.Goals as goal
 
-pub returns-else-n-all : goal.returns-else-n-all
-returns-else-n-all c =
-    let a = c.args in
-    c.powers_of-else-n-all.ensures ∙ first_all (power_of a.exponent) (length a.y.now) a.n a.y.now (omega arith) (omega arith)
+pub returns : goal.returns
+returns c = rw (c.approx_exp2_each.ensures, c.logs.ensures) (map-map _ _ _)

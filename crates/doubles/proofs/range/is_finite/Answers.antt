@@ -1,7 +1,7 @@
 -- `doubles::range::is_finite` meets its contract, by `proofs/Finite.antt`. Assumes nothing.
-use Rattle.doubles.proofs.Finite.{minus_inf_is, finite_is}
-use Rattle.doubles.proofs.Squares.{inf_is}
+use Rattle.std.proofs.Common.{◌∙◌}
+use Rattle.doubles.proofs.Finite.{finite_is}
 use Rattle.doubles.proofs.range.is_finite.Goals as goal
 
 pub returns : goal.returns
-returns c = rw (minus_inf_is, inf_is) (finite_is c.args.x)
+returns c = c.is_finite.ensures.value ∙ finite_is c.args.x

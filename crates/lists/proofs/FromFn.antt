@@ -1,0 +1,28 @@
+-- What `array::from_fn` makes with a closure whose answer at each index is known.
+use Prim.Native.Nat.{ℕ, zero, suc, ◌+◌, ◌<◌}
+use mathlib.Core.Path.{◌≡◌, sym, ◌∙◌, subst}
+use mathlib.Core.List.{List, map}
+use native.Mathlib.Nat.{zero-add, add-zero}
+use native.Mathlib.Omega.{arith}
+use denote.Param.Members.{Mut}
+use lib.ListN.{length, get_or, length-map, get_or-map}
+use Rattle.std.specs.Array.{IsFromFnResult, IsFromFnResultFrom}
+use Rattle.std.proofs.lemmas.List.{ext_get_or}
+use Rattle.std.specs.Fn.{Called}
+
+module _ {F B : Type 0} (g : Mut F (ℕ × Unit {0}) B) (f : F) (h : ℕ → B) (calls : (i : ℕ) (y : B) (q : F) → Called g f (i, tt) y q → (q ≡ f) × (y ≡ h i)) (ys : List B) (d : B) where
+  from : (n i : ℕ) → IsFromFnResultFrom g f ys i n → (k : ℕ) → k < n → get_or ys (i + k) d ≡ h (i + k)
+  from zero i r k l = absurd (omega arith)
+  from (suc n) i (q, y, at, called, rest) zero l = rw add-zero (at.1 d ∙ (calls i y q called).1)
+  from (suc n) i (q, y, at, called, rest) (suc k) l =
+      let e : i + suc k ≡ i + 1 + k = omega arith in
+      rw e (from n (i + 1) (subst (λ (p : F). IsFromFnResultFrom g p ys (i + 1) n) (calls i y q called).0 rest) k (omega arith))
+
+  pub from_fn_at : (n : ℕ) → IsFromFnResult g f ys n → (k : ℕ) → k < n → get_or ys k d ≡ h k
+  from_fn_at n r k l = rw zero-add at (from n 0 r.each k l)
+
+-- made from each entry of a list of that length
+pub from_fn_map : {F A B : Type 0} (g : Mut F (ℕ × Unit {0}) B) (f : F) (h : A → B) (xs : List A) (d : A) → ((i : ℕ) (y : B) (q : F) → Called g f (i, tt) y q → (q ≡ f) × (y ≡ h (get_or xs i d))) → (ys : List B) (n : ℕ) → IsFromFnResult g f ys n → length xs ≡ n → ys ≡ map h xs
+from_fn_map g f h xs d calls ys n r e =
+    ext_get_or (h d) ys (map h xs) (omega (arith, r.long, length-map xs h))
+    (λ k l. from_fn_at g f (λ (i : ℕ). h (get_or xs i d)) calls ys (h d) n r k (omega (arith, r.long)) ∙ sym (get_or-map h xs k d))
