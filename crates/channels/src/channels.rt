@@ -15,43 +15,32 @@ fn is_active(c: Channel) -> bool
 pub fn covered(count: usize) -> usize
     ensures { result ≡ min count 24 }
 {
-    if count < 24 { count } else { 24 }
+    count.min(24)
 }
 
 // n: how many channels are active.
 pub fn active_count(l: Layout) -> usize
     ensures { result ≡ active_count l }
 {
-    let used = covered(l.used);
-    let mut count = 0usize;
-    let mut i = 0usize;
-    while i < used {
-        let channel = l.channels[i];
-        if is_active(channel) {
-            count += 1;
-        }
-        i += 1;
-    }
-    count
+    l.channels[..covered(l.used)]
+        .iter()
+        .filter(|c| is_active(**c))
+        .count()
 }
 
 // Writes the names of the active channels, in list order, to the front of out, and answers how many
 // there are.
+// Into a lent array, whose rest stays as it is: two answers, and no heap to hold them in one.
 pub fn active_names(l: Layout, out: &mut [u64; 24]) -> usize
     ensures value { result ≡ active_count l }
     ensures out_after { out.new ≡ active_names l ++ drop (active_count l) out.old }
 {
-    let names: &mut [u64] = out;
-    let used = covered(l.used);
-    let mut n = 0usize;
-    let mut i = 0usize;
-    while i < used {
-        let c = l.channels[i];
-        if is_active(c) {
-            names[n] = c.name;
+    let mut n = 0;
+    for c in &l.channels[..covered(l.used)] {
+        if is_active(*c) {
+            out[n] = c.name;
             n += 1;
         }
-        i += 1;
     }
     n
 }

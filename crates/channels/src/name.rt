@@ -15,6 +15,7 @@ pub fn is_name(name: u64) -> bool
     if !is_letter(name % 256) {
         return false;
     }
+    // The bytes are parts of a number: no index is counted, and none is read twice.
     let mut rest = name / 256;
     while rest != 0 {
         if !is_letter(rest % 256) {

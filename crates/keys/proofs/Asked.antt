@@ -10,7 +10,8 @@ use lib.Dec.{T, leb}
 use lib.Ieee.{Float, binary64, fits}
 use lib.ListN.{length, take, length-map, length-take}
 use lib.Seq.{slice, length-take-le}
-use Rattle.lists.specs.Lists.{all_of, any_of, elem, filtered, all_distinct, chunks, total, bit, zip_with}
+use Rattle.lists.specs.Lists.{elem, all_distinct, chunks, total, bit, zip_with}
+use Rattle.std.specs.List.{list_all, list_any, filter}
 use Rattle.lists.proofs.Chunks.{chunks_take, slice_front}
 use Rattle.lists.proofs.Takes.{map_take}
 use Rattle.lists.proofs.Zips.{map-map, map-id, zip_take, zip_map}
@@ -50,14 +51,14 @@ channel_back c = go c.enabled c.lfe
     go false false = refl
 
 -- ---- question 5 by what the counts cover
-flat5 : (l : Layout) → question5 l ≡ (ordered (map layer_z (used_layers l)) && (all_of ordered (chunks (map layer_count (used_layers l)) (map row_y (used_rows l))) && all_of ordered (chunks (map row_count (used_rows l)) (map anchor_x (used_anchors l)))))
+flat5 : (l : Layout) → question5 l ≡ (ordered (map layer_z (used_layers l)) && (list_all ordered (chunks (map layer_count (used_layers l)) (map row_y (used_rows l))) && list_all ordered (chunks (map row_count (used_rows l)) (map anchor_x (used_anchors l)))))
 unfolding question5
 flat5 l =
     let cs = map layer_count (used_layers l) in
     let ns = map row_count (used_rows l) in
     ap₂ ◌&&◌ (ap ordered (layers_z (used_layers l) (rows_of l.rows l.anchors)))
     (layers_ordered_lem (used_layers l) l.rows l.anchors
-    ∙ ap₂ (λ (p q : List (List Float)). all_of ordered p && all_of ordered q)
+    ∙ ap₂ (λ (p q : List (List Float)). list_all ordered p && list_all ordered q)
     (sym (chunks_take cs (total cs) (map row_y l.rows) (omega arith)) ∙ ap (chunks cs) (sym (map_take row_y (total cs) l.rows)))
     (sym (chunks_take ns (total ns) (map anchor_x l.anchors) (omega arith)) ∙ ap (chunks ns) (sym (map_take anchor_x (total ns) l.anchors))))
 
@@ -123,18 +124,18 @@ module _ (l : Layout) (s : Sized l) (e : ℕ) where
         names_are : map anchor_name (used_anchors u) ≡ map anchor_name (used_anchors l)
         names_are = ap (map anchor_name) anchors_are ∙ sym (map-map (with_x back) anchor_name (used_anchors l))
 
-        module _ (zs : T (all_of (fits binary64) (map layer_z l.layers))) (ys : T (all_of (fits binary64) (map row_y l.rows))) (xs : T (all_of (fits binary64) (map anchor_x l.anchors))) where
+        module _ (zs : T (list_all (fits binary64) (map layer_z l.layers))) (ys : T (list_all (fits binary64) (map row_y l.rows))) (xs : T (list_all (fits binary64) (map anchor_x l.anchors))) where
           five : question5 u ≡ question5 l
           five =
               flat5 u
               ∙ ap₂ ◌&&◌
               (ap ordered (ap (map layer_z) layers_are ∙ sym (map-map (with_z back) layer_z (used_layers l)) ∙ map-map layer_z back (used_layers l))
-              ∙ ordered_back (map layer_z (used_layers l)) (subst (λ (v : List Float). T (all_of (fits binary64) v)) (sym (map_take layer_z l.depth l.layers)) (all_taken (fits binary64) l.depth (map layer_z l.layers) zs)))
+              ∙ ordered_back (map layer_z (used_layers l)) (subst (λ (v : List Float). T (list_all (fits binary64) v)) (sym (map_take layer_z l.depth l.layers)) (all_taken (fits binary64) l.depth (map layer_z l.layers) zs)))
               (ap₂ ◌&&◌
-              (ap₂ (λ (cs : List ℕ) (v : List Float). all_of ordered (chunks cs v)) counts_are (ap (map row_y) rows_are ∙ sym (map-map (with_y back) row_y (used_rows l)) ∙ map-map row_y back (used_rows l))
-              ∙ chunks_back (map layer_count (used_layers l)) (map row_y (used_rows l)) (subst (λ (v : List Float). T (all_of (fits binary64) v)) (sym (map_take row_y (total (map layer_count (used_layers l))) l.rows)) (all_taken (fits binary64) (total (map layer_count (used_layers l))) (map row_y l.rows) ys)))
-              (ap₂ (λ (cs : List ℕ) (v : List Float). all_of ordered (chunks cs v)) row_counts_are (ap (map anchor_x) anchors_are ∙ sym (map-map (with_x back) anchor_x (used_anchors l)) ∙ map-map anchor_x back (used_anchors l))
-              ∙ chunks_back (map row_count (used_rows l)) (map anchor_x (used_anchors l)) (subst (λ (v : List Float). T (all_of (fits binary64) v)) (sym (map_take anchor_x (total (map row_count (used_rows l))) l.anchors)) (all_taken (fits binary64) (total (map row_count (used_rows l))) (map anchor_x l.anchors) xs))))
+              (ap₂ (λ (cs : List ℕ) (v : List Float). list_all ordered (chunks cs v)) counts_are (ap (map row_y) rows_are ∙ sym (map-map (with_y back) row_y (used_rows l)) ∙ map-map row_y back (used_rows l))
+              ∙ chunks_back (map layer_count (used_layers l)) (map row_y (used_rows l)) (subst (λ (v : List Float). T (list_all (fits binary64) v)) (sym (map_take row_y (total (map layer_count (used_layers l))) l.rows)) (all_taken (fits binary64) (total (map layer_count (used_layers l))) (map row_y l.rows) ys)))
+              (ap₂ (λ (cs : List ℕ) (v : List Float). list_all ordered (chunks cs v)) row_counts_are (ap (map anchor_x) anchors_are ∙ sym (map-map (with_x back) anchor_x (used_anchors l)) ∙ map-map anchor_x back (used_anchors l))
+              ∙ chunks_back (map row_count (used_rows l)) (map anchor_x (used_anchors l)) (subst (λ (v : List Float). T (list_all (fits binary64) v)) (sym (map_take anchor_x (total (map row_count (used_rows l))) l.anchors)) (all_taken (fits binary64) (total (map row_count (used_rows l))) (map anchor_x l.anchors) xs))))
               ∙ sym (flat5 l)
 
 -- ---- the six answers
@@ -145,7 +146,7 @@ asked_is : (l : Layout) → first_no (layout_questions l) ≡ by (question1 l) (
 unfolding layout_questions
 asked_is l = refl
 
-module _ (l : Layout) (s : Sized l) (zs : T (all_of (fits binary64) (map layer_z l.layers))) (ys : T (all_of (fits binary64) (map row_y l.rows))) (xs : T (all_of (fits binary64) (map anchor_x l.anchors))) (e : ℕ) where
+module _ (l : Layout) (s : Sized l) (zs : T (list_all (fits binary64) (map layer_z l.layers))) (ys : T (list_all (fits binary64) (map row_y l.rows))) (xs : T (list_all (fits binary64) (map anchor_x l.anchors))) (e : ℕ) where
   abbrev v : Layout
   v = layout_in (packed_numbers l e)
 
@@ -167,7 +168,7 @@ module _ (l : Layout) (s : Sized l) (zs : T (all_of (fits binary64) (map layer_z
     where
       go : (b : Bool) → from_to 1 24 l.used ≡ b → question1 v ≡ question1 l
       go false q = rw (used_is l s e, q)
-      go true q = ap₂ (λ (n : ℕ) (c : List Channel). from_to 1 24 n && all_of valid_name (map channel_name c) && all_distinct (map channel_name c)) (used_is l s e) (channels_are l s e (within 1 24 l.used q).1)
+      go true q = ap₂ (λ (n : ℕ) (c : List Channel). from_to 1 24 n && list_all valid_name (map channel_name c) && all_distinct (map channel_name c)) (used_is l s e) (channels_are l s e (within 1 24 l.used q).1)
 
   few_channels_lem : question1 l ≡ true → l.used ≤ 24
   few_channels_lem q = (within 1 24 l.used (yes1 l q).0).1
@@ -181,7 +182,7 @@ module _ (l : Layout) (s : Sized l) (zs : T (all_of (fits binary64) (map layer_z
   abbrev ns : List ℕ
   ns = map row_count (used_rows l)
 
-  rows_few : l.depth ≤ 4 → all_of (from_to 1 6) cs ≡ true → total cs ≤ 24
+  rows_few : l.depth ≤ 4 → list_all (from_to 1 6) cs ≡ true → total cs ≤ 24
   rows_few h q =
       let m = total_most cs q in
       let n : length cs ≤ 4 = omega (arith, h, length-map (used_layers l) layer_count, length-take l.depth l.layers) in
@@ -189,17 +190,17 @@ module _ (l : Layout) (s : Sized l) (zs : T (all_of (fits binary64) (map layer_z
 
   four : question2 l ≡ true → question4 v ≡ question4 l
   unfolding question4
-  four q = go (all_of (from_to 1 6) cs) refl
+  four q = go (list_all (from_to 1 6) cs) refl
     where
-      go : (b : Bool) → all_of (from_to 1 6) cs ≡ b → question4 v ≡ question4 l
+      go : (b : Bool) → list_all (from_to 1 6) cs ≡ b → question4 v ≡ question4 l
       go false p = rw (counts_are l s e (few_layers_lem q), p)
-      go true p = ap₂ (λ (c n : List ℕ). all_of (from_to 1 6) c && all_of (leb 1) n && leb (total n) 24) (counts_are l s e (few_layers_lem q)) (row_counts_are l s e (few_layers_lem q) (rows_few (few_layers_lem q) p))
+      go true p = ap₂ (λ (c n : List ℕ). list_all (from_to 1 6) c && list_all (leb 1) n && leb (total n) 24) (counts_are l s e (few_layers_lem q)) (row_counts_are l s e (few_layers_lem q) (rows_few (few_layers_lem q) p))
 
   yes4 : question2 l ≡ true → question4 l ≡ true → (total cs ≤ 24) × (total ns ≤ 24)
   unfolding question4
   yes4 q f =
-      let a = both (all_of (from_to 1 6) cs && all_of (leb 1) ns) (leb (total ns) 24) f in
-      let b = both (all_of (from_to 1 6) cs) (all_of (leb 1) ns) a.0 in
+      let a = both (list_all (from_to 1 6) cs && list_all (leb 1) ns) (leb (total ns) 24) f in
+      let b = both (list_all (from_to 1 6) cs) (list_all (leb 1) ns) a.0 in
       (rows_few (few_layers_lem q) b.0, leb-true (total ns) 24 a.1)
 
   pub asked_same : first_no (layout_questions v) ≡ first_no (layout_questions l)
@@ -209,7 +210,7 @@ module _ (l : Layout) (s : Sized l) (zs : T (all_of (fits binary64) (map layer_z
       ∙ first _ _ _ _ _ _ (question1 l) (question2 l) (question3 l) (question4 l) (question5 l) (question6 l)
       one
       (ap (from_to 1 4) (depth_is l s e))
-      (λ p. ap (any_of active) (channels_are l s e (few_channels_lem p)))
+      (λ p. ap (list_any active) (channels_are l s e (few_channels_lem p)))
       four
       (λ q t. let f = yes4 q t in five l s e (few_layers_lem q) f.0 f.1 zs ys xs)
       (λ p q t. let f = yes4 q t in six p (few_layers_lem q) f.0 f.1)
@@ -217,4 +218,4 @@ module _ (l : Layout) (s : Sized l) (zs : T (all_of (fits binary64) (map layer_z
     where
       six : question1 l ≡ true → (h : l.depth ≤ 4) (r : total cs ≤ 24) (a : total ns ≤ 24) → question6 v ≡ question6 l
       six p h r a =
-          ap₂ (λ (c : List Channel) (w : List ℕ). all_of (λ (n : ℕ). elem n (map channel_name (filtered active c))) w) (channels_are l s e (few_channels_lem p)) (names_are l s e h r a)
+          ap₂ (λ (c : List Channel) (w : List ℕ). list_all (λ (n : ℕ). elem n (map channel_name (filter active c))) w) (channels_are l s e (few_channels_lem p)) (names_are l s e h r a)

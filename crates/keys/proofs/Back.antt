@@ -12,7 +12,8 @@ use mir.Facts.{and_yes}
 use Rattle.doubles.specs.Arithmetic.{◌⊕◌, zero64}
 use Rattle.doubles.proofs.AddZero.{add_zero_same, zero_is}
 use Rattle.doubles.proofs.Alike.{Alike, zeros, signed, alike_path, blind, lt_same, same_lt}
-use Rattle.lists.specs.Lists.{all_of, chain_from, chunks}
+use Rattle.lists.specs.Lists.{chain_from, chunks}
+use Rattle.std.specs.List.{list_all}
 use Rattle.lists.proofs.Takes.{map_take}
 use Rattle.layout.specs.Questions.{in_room, ordered}
 use Rattle.layout.proofs.Coordinates.{all_taken, all_dropped}
@@ -48,26 +49,26 @@ pub back_less : (x y : Float) → T (fits binary64 x) → T (fits binary64 y) �
 back_less x y h k = lt_same x (back x) (back_alike x h) y ∙ same_lt y (back y) (back_alike y k) (back x)
 
 -- ---- of lists
-all_back : (xs : List Float) → T (all_of (fits binary64) xs) → all_of in_room (map back xs) ≡ all_of in_room xs
+all_back : (xs : List Float) → T (list_all (fits binary64) xs) → list_all in_room (map back xs) ≡ list_all in_room xs
 all_back [] h = refl
 all_back (x ∷ xs) h =
-    let p = and_yes (fits binary64 x) (all_of (fits binary64) xs) h in
+    let p = and_yes (fits binary64 x) (list_all (fits binary64) xs) h in
     ap₂ ◌&&◌ (sym (back_in_room x p.0)) (all_back xs p.1)
 
-chain_back : (x : Float) (xs : List Float) → T (fits binary64 x) → T (all_of (fits binary64) xs) → chain_from lt (back x) (map back xs) ≡ chain_from lt x xs
+chain_back : (x : Float) (xs : List Float) → T (fits binary64 x) → T (list_all (fits binary64) xs) → chain_from lt (back x) (map back xs) ≡ chain_from lt x xs
 chain_back x [] f h = refl
 chain_back x (y ∷ xs) f h =
-    let p = and_yes (fits binary64 y) (all_of (fits binary64) xs) h in
+    let p = and_yes (fits binary64 y) (list_all (fits binary64) xs) h in
     ap₂ ◌&&◌ (sym (back_less x y f p.0)) (chain_back y xs p.0 p.1)
 
-pub ordered_back : (xs : List Float) → T (all_of (fits binary64) xs) → ordered (map back xs) ≡ ordered xs
+pub ordered_back : (xs : List Float) → T (list_all (fits binary64) xs) → ordered (map back xs) ≡ ordered xs
 ordered_back [] h = refl
 ordered_back (x ∷ xs) h =
-    let p = and_yes (fits binary64 x) (all_of (fits binary64) xs) h in
+    let p = and_yes (fits binary64 x) (list_all (fits binary64) xs) h in
     ap₂ ◌&&◌ (all_back (x ∷ xs) h) (chain_back x xs p.0 p.1)
 
-pub chunks_back : (cs : List ℕ) (xs : List Float) → T (all_of (fits binary64) xs) → all_of ordered (chunks cs (map back xs)) ≡ all_of ordered (chunks cs xs)
+pub chunks_back : (cs : List ℕ) (xs : List Float) → T (list_all (fits binary64) xs) → list_all ordered (chunks cs (map back xs)) ≡ list_all ordered (chunks cs xs)
 chunks_back [] xs h = refl
 chunks_back (c ∷ cs) xs h =
     ap₂ ◌&&◌ (ap ordered (sym (map_take back c xs)) ∙ ordered_back (take c xs) (all_taken (fits binary64) c xs h))
-    (ap (λ (v : List Float). all_of ordered (chunks cs v)) (sym (map_drop back c xs)) ∙ chunks_back cs (drop c xs) (all_dropped (fits binary64) c xs h))
+    (ap (λ (v : List Float). list_all ordered (chunks cs v)) (sym (map_drop back c xs)) ∙ chunks_back cs (drop c xs) (all_dropped (fits binary64) c xs h))

@@ -8,7 +8,8 @@ use lib.Dec.{T, eqb}
 use lib.Ieee.Fits.{eq→eqb}
 use lib.ListN.{length, drop, length-append, length-map}
 use mir.Facts.{and_yes, yes_and}
-use Rattle.lists.specs.Lists.{bit, all_of, all_same, total, flatten}
+use Rattle.lists.specs.Lists.{bit, all_same, total, flatten}
+use Rattle.std.specs.List.{list_all}
 use Rattle.layout.specs.declared.Channel.{Channel}
 use Rattle.layout.specs.Same.{same_channel}
 use Rattle.layout.proofs.SameNumbers.{eq→beq}
@@ -44,13 +45,13 @@ numbers_same f n xs ys h e = (apart (map f xs) (map f ys) _ _ (rw (length-map xs
 
 -- ---- a list of entries is known by two lists of numbers
 module _ {A : Type 0} (r : A → A → Bool) (good : A → Bool) (f g : A → ℕ) (closes : (x y : A) → T (good x) → T (good y) → f x ≡ f y → g x ≡ g y → T (r x y)) where
-  pub entries_same : (xs ys : List A) → T (all_of good xs) → T (all_of good ys) → map f xs ≡ map f ys → map g xs ≡ map g ys → T (all_same r xs ys)
+  pub entries_same : (xs ys : List A) → T (list_all good xs) → T (list_all good ys) → map f xs ≡ map f ys → map g xs ≡ map g ys → T (all_same r xs ys)
   entries_same [] [] h k p q = tt
   entries_same [] (y ∷ ys) h k p q = let z : ◌≡◌ {A = ℕ} 0 1 = cc in absurd (omega arith)
   entries_same (x ∷ xs) [] h k p q = let z : ◌≡◌ {A = ℕ} 0 1 = cc in absurd (omega arith)
   entries_same (x ∷ xs) (y ∷ ys) h k p q =
-      let u = and_yes (good x) (all_of good xs) h in
-      let v = and_yes (good y) (all_of good ys) k in
+      let u = and_yes (good x) (list_all good xs) h in
+      let v = and_yes (good y) (list_all good ys) k in
       yes_and (r x y) (all_same r xs ys) (closes x y u.0 v.0 (cc) (cc)) (entries_same xs ys u.1 v.1 (ap (drop 1) p) (ap (drop 1) q))
 
 -- ---- one whose entries have parts, by a list of numbers, how long each part is, and all parts together
@@ -72,13 +73,13 @@ module _ {A : Type 0} (r : A → A → Bool) where
       (parts : B → List A)
       (closes : (x y : B) → T (good x) → T (good y) → f x ≡ f y → T (all_same r (parts x) (parts y)) → T (s x y))
     where
-      pub parted_same : (xs ys : List B) → T (all_of good xs) → T (all_of good ys) → map f xs ≡ map f ys → map (λ (x : B). length (parts x)) xs ≡ map (λ (x : B). length (parts x)) ys → T (all_same r (flatten (map parts xs)) (flatten (map parts ys))) → T (all_same s xs ys)
+      pub parted_same : (xs ys : List B) → T (list_all good xs) → T (list_all good ys) → map f xs ≡ map f ys → map (λ (x : B). length (parts x)) xs ≡ map (λ (x : B). length (parts x)) ys → T (all_same r (flatten (map parts xs)) (flatten (map parts ys))) → T (all_same s xs ys)
       parted_same [] [] h k p q w = tt
       parted_same [] (y ∷ ys) h k p q w = let z : ◌≡◌ {A = ℕ} 0 1 = cc in absurd (omega arith)
       parted_same (x ∷ xs) [] h k p q w = let z : ◌≡◌ {A = ℕ} 0 1 = cc in absurd (omega arith)
       parted_same (x ∷ xs) (y ∷ ys) h k p q w =
-          let u = and_yes (good x) (all_of good xs) h in
-          let v = and_yes (good y) (all_of good ys) k in
+          let u = and_yes (good x) (list_all good xs) h in
+          let v = and_yes (good y) (list_all good ys) k in
           let c = all_same_apart (parts x) (parts y) (flatten (map parts xs)) (flatten (map parts ys)) (cc) w in
           yes_and (s x y) (all_same s xs ys) (closes x y u.0 v.0 (cc) c.0) (parted_same xs ys u.1 v.1 (ap (drop 1) p) (ap (drop 1) q) c.1)
 

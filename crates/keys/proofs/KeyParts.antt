@@ -1,11 +1,11 @@
 -- A key is written in parts: a loop that writes two of them, and a part that lies in its own zeros.
 use Prim.Native.Nat.{ℕ, suc, ◌+◌, ◌<◌, ◌≤◌}
-use mathlib.Core.Path.{◌≡◌, refl, ◌∙◌}
+use mathlib.Core.Path.{◌≡◌, ◌∙◌}
 use mathlib.Core.List.{List, ◌++◌}
 use native.Mathlib.Numerals.{add-one}
 use native.Mathlib.Omega.{arith}
 use lib.ListN.{length, take, drop, set, get_or, length-set, length-append}
-use lib.Seq.{paste, paste-zero, paste-suc, length-paste, length-take-le, set-append_left, take-set-lt, drop-set-lt}
+use lib.Seq.{paste, paste-suc, length-paste, length-take-le, set-append_left, take-set-lt, drop-set-lt}
 use Rattle.keys.specs.Steps.{two_parts}
 
 -- ---- what stands before a part is written apart from it
@@ -26,18 +26,6 @@ pub record Packed (a : ℕ) (xs : List ℕ) (b : ℕ) (ys : List ℕ) (n : ℕ) 
   pub same : key ≡ two_parts a xs b ys i old
 
 module _ (a : ℕ) (xs : List ℕ) (b : ℕ) (ys : List ℕ) (n : ℕ) (old : List ℕ) where
-  pub packed_none : n ≤ length xs → n ≤ length ys → a + n ≤ b → b + n ≤ length old → Packed a xs b ys n old old 0
-  packed_none f s h r =
-      record {
-        reached = omega arith;
-        firsts = f;
-        seconds = s;
-        apart = h;
-        room = r;
-        long = refl;
-        same = paste-zero old a xs ∙ paste-zero (paste old a xs 0) b ys;
-      }
-
   -- a turn writes one more of each
   pub packed_more : (key : List ℕ) (i j k x y d z : ℕ) → Packed a xs b ys n old key i → i < n → j ≡ a + i → k ≡ b + i → x ≡ get_or xs i d → y ≡ get_or ys i z → Packed a xs b ys n old (set (set key j x) k y) (i + 1)
   packed_more key i j k x y d z w h e f p q =
@@ -54,7 +42,3 @@ module _ (a : ℕ) (xs : List ℕ) (b : ℕ) (ys : List ℕ) (n : ℕ) (old : Li
             rw (w.same, e, f, p, q, add-one i, paste_set (paste old a xs i) b ys i (a + i) (get_or xs i d) (omega arith) (omega arith), paste-suc old a xs i d (omega arith) (omega arith))
             (paste-suc (paste old a xs (suc i)) b ys i z (omega arith) (omega arith));
       }
-
-  -- at the end all are written
-  pub packed_done : (key : List ℕ) (i : ℕ) → Packed a xs b ys n old key i → n ≤ i → key ≡ two_parts a xs b ys n old
-  packed_done key i w h = let e : i ≡ n = omega arith in rw (← e) w.same

@@ -1,20 +1,18 @@
 -- A key as parts one behind another: a part is written into the zeros of its own place, and what is written so is the key.
 use Prim.Native.Nat.{ℕ, zero, suc, ◌+◌, ◌<◌, ◌≤◌}
-use mathlib.Core.Path.{◌≡◌, refl, sym, ap, ◌∙◌}
+use mathlib.Core.Path.{◌≡◌, refl, ap, ◌∙◌}
 use mathlib.Core.List.{List, [], ◌∷◌, ◌++◌, map, append_assoc, append-nil}
 use native.Mathlib.Nat.{zero-add, suc-add, add_assoc}
 use native.Mathlib.Omega.{arith}
 use lib.ListN.{length, take, drop, set, get_or, replicate, length-append, length-map, length-drop, length-replicate, length-take}
-use lib.Seq.{paste, take-append-add, drop-append-add, drop-append-le}
+use lib.Seq.{paste, take_all, take-append-add, drop-append-add, drop-append-le}
 use Rattle.lists.specs.Lists.{total, flatten}
-use Rattle.lists.proofs.Takes.{map_take}
 use Rattle.layout.specs.declared.Layout.{Layout}
 use Rattle.layout.specs.Channels.{channels_of, channel_name}
 use Rattle.layout.specs.Topology.{used_layers, used_rows, used_anchors, layer_count, row_count, anchor_name}
 use Rattle.layout.proofs.Sizes.{Sized, rows_fit, anchors_fit}
-use Rattle.layout.proofs.TopologyLists.{take_taken}
 use Rattle.keys.specs.Keys.{filled_to, flag_number}
-use Rattle.keys.specs.Steps.{packed_numbers, z_pattern, y_pattern, x_pattern, two_parts, topology_parts}
+use Rattle.keys.specs.Steps.{packed_numbers, z_pattern, y_pattern, x_pattern, two_parts}
 
 -- ---- one of several parts
 module _ {A : Type 0} where
@@ -40,23 +38,17 @@ pub length_filled : (n : ℕ) (xs : List ℕ) → length xs ≤ n → length (fi
 length_filled n xs h = simp (length-append, length-drop, length-replicate) (omega arith)
 
 -- ---- a part written into zeros
-module _ {A : Type 0} (xs : List A) (j m n : ℕ) (e : length (take j xs) ≡ n) (h : n ≤ m) where
-  filled_is : (f : A → ℕ) → take n (map f xs) ++ drop n (replicate m 0) ≡ filled_to m (map f (take j xs))
-  filled_is f =
-      let t : take n (map f xs) ≡ map f (take j xs) = rw (← e) (sym (map_take f (length (take j xs)) xs) ∙ ap (map f) (take_taken j xs)) in
-      let k : length (map f (take j xs)) ≡ n = length-map (take j xs) f ∙ e in
-      rw (t, k)
+part_filled : (xs : List ℕ) (n m : ℕ) → length xs ≡ n → n ≤ m → (ps : List (List ℕ)) (k at : ℕ) → k < length ps → at ≡ total (map length (take k ps)) → get_or ps k [] ≡ replicate m 0 → paste (flatten ps) at xs n ≡ flatten (set ps k (filled_to m xs))
+part_filled xs n m e h ps k at r q z =
+    paste_part ps k at xs n r q (rw (z, length-replicate) h)
+    ∙ ap (λ (p : List ℕ). flatten (set ps k (take n xs ++ drop n p))) z
+    ∙ rw (← e, take_all (length xs) xs (omega arith))
 
-  part_filled : (f : A → ℕ) (ps : List (List ℕ)) (k at : ℕ) → k < length ps → at ≡ total (map length (take k ps)) → get_or ps k [] ≡ replicate m 0 → paste (flatten ps) at (map f xs) n ≡ flatten (set ps k (filled_to m (map f (take j xs))))
-  part_filled f ps k at r q z =
-      paste_part ps k at (map f xs) n r q (rw (z, length-replicate) h)
-      ∙ ap (λ (p : List ℕ). flatten (set ps k p)) (ap (λ (p : List ℕ). take n (map f xs) ++ drop n p) z ∙ filled_is f)
-
-  -- two of them
-  pub two_filled : (f g : A → ℕ) (ps : List (List ℕ)) (i k at to : ℕ) → i < length ps → at ≡ total (map length (take i ps)) → get_or ps i [] ≡ replicate m 0 → k < length (set ps i (filled_to m (map f (take j xs)))) → to ≡ total (map length (take k (set ps i (filled_to m (map f (take j xs)))))) → get_or (set ps i (filled_to m (map f (take j xs)))) k [] ≡ replicate m 0 → two_parts at (map f xs) to (map g xs) n (flatten ps) ≡ flatten (set (set ps i (filled_to m (map f (take j xs)))) k (filled_to m (map g (take j xs))))
-  two_filled f g ps i k at to r q z u v w =
-      ap (λ (p : List ℕ). paste p to (map g xs) n) (part_filled f ps i at r q z)
-      ∙ part_filled g (set ps i (filled_to m (map f (take j xs)))) k to u v w
+-- two of them
+two_filled : {A : Type 0} (v : List A) (m : ℕ) → length v ≤ m → (f g : A → ℕ) (ps : List (List ℕ)) (i k at to : ℕ) → i < length ps → at ≡ total (map length (take i ps)) → get_or ps i [] ≡ replicate m 0 → k < length (set ps i (filled_to m (map f v))) → to ≡ total (map length (take k (set ps i (filled_to m (map f v))))) → get_or (set ps i (filled_to m (map f v))) k [] ≡ replicate m 0 → two_parts at (map f v) to (map g v) (length v) (flatten ps) ≡ flatten (set (set ps i (filled_to m (map f v))) k (filled_to m (map g v)))
+two_filled v m h f g ps i k at to r q z u w y =
+    ap (λ (p : List ℕ). paste p to (map g v) (length v)) (part_filled (map f v) (length v) m (length-map v f) h ps i at r q z)
+    ∙ part_filled (map g v) (length v) m (length-map v g) h (set ps i (filled_to m (map f v))) k to u w y
 
 -- ---- the parts of a key
 module _ (l : Layout) where
@@ -113,6 +105,25 @@ parts_long l s =
     }
 
 -- ---- the steps that write a key: two parts each, into zeros
+module _ (l : Layout) where
+  abbrev pub channels_put : List ℕ → List ℕ
+  channels_put = two_parts 0 (map channel_name (channels_of l)) 24 (map flag_number (channels_of l)) (length (channels_of l))
+
+  abbrev pub layers_put : List ℕ → List ℕ
+  layers_put = two_parts 48 (map layer_count (used_layers l)) 100 (map z_pattern (used_layers l)) (length (used_layers l))
+
+  abbrev pub rows_put : List ℕ → List ℕ
+  rows_put = two_parts 52 (map row_count (used_rows l)) 104 (map y_pattern (used_rows l)) (length (used_rows l))
+
+  abbrev pub anchors_put : List ℕ → List ℕ
+  anchors_put = two_parts 76 (map anchor_name (used_anchors l)) 128 (map x_pattern (used_anchors l)) (length (used_anchors l))
+
+abbrev z : List ℕ
+z = replicate 24 0
+
+abbrev y : List ℕ
+y = replicate 4 0
+
 module _ (l : Layout) (s : Sized l) where
   channels_fit : length (channels_of l) ≤ 24
   channels_fit = rw length-take (omega (arith, s.channels))
@@ -120,34 +131,32 @@ module _ (l : Layout) (s : Sized l) where
   layers_fit : length (used_layers l) ≤ 4
   layers_fit = rw length-take (omega (arith, s.layers))
 
-  channels_written : (z c d e f g h t : List ℕ) → z ≡ replicate 24 0 → two_parts 0 (map channel_name l.channels) 24 (map flag_number l.channels) (length (channels_of l)) (flatten (z ∷ z ∷ c ∷ d ∷ e ∷ f ∷ g ∷ h ∷ t ∷ [])) ≡ flatten (names l ∷ flags l ∷ c ∷ d ∷ e ∷ f ∷ g ∷ h ∷ t ∷ [])
-  channels_written z c d e f g h t q =
+  channels_written : channels_put l (flatten (z ∷ z ∷ y ∷ z ∷ z ∷ y ∷ z ∷ z ∷ y ∷ [])) ≡ flatten (names l ∷ flags l ∷ y ∷ z ∷ z ∷ y ∷ z ∷ z ∷ y ∷ [])
+  channels_written =
       let w = parts_long l s in
-      two_filled l.channels l.used 24 (length (channels_of l)) refl channels_fit channel_name flag_number (z ∷ z ∷ c ∷ d ∷ e ∷ f ∷ g ∷ h ∷ t ∷ []) 0 1 0 24 (omega arith) refl q (omega arith) (omega arith) q
+      two_filled (channels_of l) 24 channels_fit channel_name flag_number (z ∷ z ∷ y ∷ z ∷ z ∷ y ∷ z ∷ z ∷ y ∷ []) 0 1 0 24 (omega arith) refl refl (omega arith) (omega arith) refl
 
-  layers_written : (a b z d e g h t : List ℕ) → length a ≡ 24 → length b ≡ 24 → length d ≡ 24 → length e ≡ 24 → z ≡ replicate 4 0 → two_parts 48 (map layer_count l.layers) 100 (map z_pattern l.layers) (length (used_layers l)) (flatten (a ∷ b ∷ z ∷ d ∷ e ∷ z ∷ g ∷ h ∷ t ∷ [])) ≡ flatten (a ∷ b ∷ layer_counts l ∷ d ∷ e ∷ zs l ∷ g ∷ h ∷ t ∷ [])
-  layers_written a b z d e g h t la lb ld le q =
+  layers_written : layers_put l (flatten (names l ∷ flags l ∷ y ∷ z ∷ z ∷ y ∷ z ∷ z ∷ y ∷ [])) ≡ flatten (names l ∷ flags l ∷ layer_counts l ∷ z ∷ z ∷ zs l ∷ z ∷ z ∷ y ∷ [])
+  layers_written =
       let w = parts_long l s in
-      two_filled l.layers l.depth 4 (length (used_layers l)) refl layers_fit layer_count z_pattern (a ∷ b ∷ z ∷ d ∷ e ∷ z ∷ g ∷ h ∷ t ∷ []) 2 5 48 100 (omega arith) (omega arith) q (omega arith) (omega arith) q
+      two_filled (used_layers l) 4 layers_fit layer_count z_pattern (names l ∷ flags l ∷ y ∷ z ∷ z ∷ y ∷ z ∷ z ∷ y ∷ []) 2 5 48 100 (omega arith) (omega arith) refl (omega arith) (omega arith) refl
 
-  rows_written : (a b c z e f h t : List ℕ) → length a ≡ 24 → length b ≡ 24 → length c ≡ 4 → length e ≡ 24 → length f ≡ 4 → z ≡ replicate 24 0 → two_parts 52 (map row_count l.rows) 104 (map y_pattern l.rows) (length (used_rows l)) (flatten (a ∷ b ∷ c ∷ z ∷ e ∷ f ∷ z ∷ h ∷ t ∷ [])) ≡ flatten (a ∷ b ∷ c ∷ row_counts l ∷ e ∷ f ∷ ys l ∷ h ∷ t ∷ [])
-  rows_written a b c z e f h t la lb lc le lf q =
+  rows_written : rows_put l (flatten (names l ∷ flags l ∷ layer_counts l ∷ z ∷ z ∷ zs l ∷ z ∷ z ∷ y ∷ [])) ≡ flatten (names l ∷ flags l ∷ layer_counts l ∷ row_counts l ∷ z ∷ zs l ∷ ys l ∷ z ∷ y ∷ [])
+  rows_written =
       let w = parts_long l s in
-      two_filled l.rows (total (map layer_count (used_layers l))) 24 (length (used_rows l)) refl (rows_fit l s) row_count y_pattern (a ∷ b ∷ c ∷ z ∷ e ∷ f ∷ z ∷ h ∷ t ∷ []) 3 6 52 104 (omega arith) (omega arith) q (omega arith) (omega arith) q
+      two_filled (used_rows l) 24 (rows_fit l s) row_count y_pattern (names l ∷ flags l ∷ layer_counts l ∷ z ∷ z ∷ zs l ∷ z ∷ z ∷ y ∷ []) 3 6 52 104 (omega arith) (omega arith) refl (omega arith) (omega arith) refl
 
-  anchors_written : (a b c d z f g t : List ℕ) → length a ≡ 24 → length b ≡ 24 → length c ≡ 4 → length d ≡ 24 → length f ≡ 4 → length g ≡ 24 → z ≡ replicate 24 0 → two_parts 76 (map anchor_name l.anchors) 128 (map x_pattern l.anchors) (length (used_anchors l)) (flatten (a ∷ b ∷ c ∷ d ∷ z ∷ f ∷ g ∷ z ∷ t ∷ [])) ≡ flatten (a ∷ b ∷ c ∷ d ∷ anchor_names l ∷ f ∷ g ∷ xs l ∷ t ∷ [])
-  anchors_written a b c d z f g t la lb lc ld lf lg q =
+  anchors_written : anchors_put l (flatten (names l ∷ flags l ∷ layer_counts l ∷ row_counts l ∷ z ∷ zs l ∷ ys l ∷ z ∷ y ∷ [])) ≡ flatten (names l ∷ flags l ∷ layer_counts l ∷ row_counts l ∷ anchor_names l ∷ zs l ∷ ys l ∷ xs l ∷ y ∷ [])
+  anchors_written =
       let w = parts_long l s in
-      two_filled l.anchors (total (map row_count (used_rows l))) 24 (length (used_anchors l)) refl (anchors_fit l s) anchor_name x_pattern (a ∷ b ∷ c ∷ d ∷ z ∷ f ∷ g ∷ z ∷ t ∷ []) 4 7 76 128 (omega arith) (omega arith) q (omega arith) (omega arith) q
+      two_filled (used_anchors l) 24 (anchors_fit l s) anchor_name x_pattern (names l ∷ flags l ∷ layer_counts l ∷ row_counts l ∷ z ∷ zs l ∷ ys l ∷ z ∷ y ∷ []) 4 7 76 128 (omega arith) (omega arith) refl (omega arith) (omega arith) refl
 
-  topology_written : (a b z y t : List ℕ) → length a ≡ 24 → length b ≡ 24 → z ≡ replicate 24 0 → y ≡ replicate 4 0 → topology_parts l (flatten (a ∷ b ∷ y ∷ z ∷ z ∷ y ∷ z ∷ z ∷ t ∷ [])) ≡ flatten (a ∷ b ∷ layer_counts l ∷ row_counts l ∷ anchor_names l ∷ zs l ∷ ys l ∷ xs l ∷ t ∷ [])
-  unfolding topology_parts
-  topology_written a b z y t la lb q r =
-      let w = parts_long l s in
-      let k : length z ≡ 24 = ap length q in
-      ap (λ (p : List ℕ). two_parts 76 (map anchor_name l.anchors) 128 (map x_pattern l.anchors) (length (used_anchors l)) (two_parts 52 (map row_count l.rows) 104 (map y_pattern l.rows) (length (used_rows l)) p)) (layers_written a b y z z z z t la lb k k r)
-      ∙ ap (λ (p : List ℕ). two_parts 76 (map anchor_name l.anchors) 128 (map x_pattern l.anchors) (length (used_anchors l)) p) (rows_written a b (layer_counts l) z z (zs l) z t la lb w.layer_counts k w.zs q)
-      ∙ anchors_written a b (layer_counts l) (row_counts l) z (zs l) (ys l) t la lb w.layer_counts w.row_counts w.zs w.ys q
+  all_written : anchors_put l (rows_put l (layers_put l (channels_put l (replicate 156 0)))) ≡ flatten (names l ∷ flags l ∷ layer_counts l ∷ row_counts l ∷ anchor_names l ∷ zs l ∷ ys l ∷ xs l ∷ y ∷ [])
+  all_written =
+      ap (λ (p : List ℕ). anchors_put l (rows_put l (layers_put l p))) channels_written
+      ∙ ap (λ (p : List ℕ). anchors_put l (rows_put l p)) layers_written
+      ∙ ap (anchors_put l) rows_written
+      ∙ anchors_written
 
 -- ---- eight parts and the numbers at the end
 module _ (a b c d e f g h : List ℕ) where
@@ -177,15 +186,9 @@ module _ (l : Layout) (s : Sized l) where
   key_length epoch = length-append parts (l.used ∷ l.depth ∷ epoch ∷ 0 ∷ []) ∙ rw parts_length
 
   -- all that is written
-  pub key_written : (epoch : ℕ) (old : List ℕ) → old ≡ replicate 156 0 → set (set (set (topology_parts l (two_parts 0 (map channel_name l.channels) 24 (map flag_number l.channels) (length (channels_of l)) old)) 152 l.used) 153 l.depth) 154 epoch ≡ packed_numbers l epoch
+  pub key_written : (epoch : ℕ) → set (set (set (anchors_put l (rows_put l (layers_put l (channels_put l (replicate 156 0))))) 152 l.used) 153 l.depth) 154 epoch ≡ packed_numbers l epoch
   unfolding packed_numbers
-  key_written epoch old q =
-      let w = parts_long l s in
-      let z : List ℕ = replicate 24 0 in
-      let y : List ℕ = replicate 4 0 in
-      let blank : old ≡ flatten (z ∷ z ∷ y ∷ z ∷ z ∷ y ∷ z ∷ z ∷ y ∷ []) = q in
-      ap (λ (p : List ℕ). set (set (set (topology_parts l (two_parts 0 (map channel_name l.channels) 24 (map flag_number l.channels) (length (channels_of l)) p)) 152 l.used) 153 l.depth) 154 epoch) blank
-      ∙ ap (λ (p : List ℕ). set (set (set (topology_parts l p) 152 l.used) 153 l.depth) 154 epoch) (channels_written l s z y z z y z z y refl)
-      ∙ ap (λ (p : List ℕ). set (set (set p 152 l.used) 153 l.depth) 154 epoch)
-      (topology_written l s (names l) (flags l) z y y w.names w.flags refl refl ∙ eight_joined (names l) (flags l) (layer_counts l) (row_counts l) (anchor_names l) (zs l) (ys l) (xs l) y)
+  key_written epoch =
+      ap (λ (p : List ℕ). set (set (set p 152 l.used) 153 l.depth) 154 epoch)
+      (all_written l s ∙ eight_joined (names l) (flags l) (layer_counts l) (row_counts l) (anchor_names l) (zs l) (ys l) (xs l) (replicate 4 0))
       ∙ numbers_written parts l.used l.depth epoch parts_length

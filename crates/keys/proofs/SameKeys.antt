@@ -13,7 +13,8 @@ use lib.ListN.{length, get_or, length-map}
 use mir.Facts.{and_yes, yes_and}
 use Rattle.doubles.specs.Arithmetic.{one64, minus_one64}
 use Rattle.doubles.specs.Range.{is_between}
-use Rattle.lists.specs.Lists.{all_of, all_same, total, flatten}
+use Rattle.lists.specs.Lists.{all_same, total, flatten}
+use Rattle.std.specs.List.{list_all}
 use Rattle.layout.specs.declared.Anchor.{Anchor}
 use Rattle.layout.specs.Channels.{channel_name}
 use Rattle.layout.specs.Topology.{TopologyRow, TopologyLayer, anchor_name, anchor_x}
@@ -96,12 +97,12 @@ place_eq x y h k e =
     pattern_eq x y f.0 (and_yes (finite x) (is_between minus_one64 one64 x) f.1).0 g.0 (and_yes (finite y) (is_between minus_one64 one64 y) g.1).0 e
 
 module _ {A : Type 0} where
-  places : (f : A → Float) (l : List A) → T (all_of (fits binary64) (map f l)) → T (ordered (map f l)) → T (all_of (λ (x : A). place (f x)) l)
+  places : (f : A → Float) (l : List A) → T (list_all (fits binary64) (map f l)) → T (ordered (map f l)) → T (list_all (λ (x : A). place (f x)) l)
   places f l h o = all_and (λ (x : A). fits binary64 (f x)) (λ (x : A). in_room (f x)) l (all_unmap (fits binary64) f l h) (all_unmap in_room f l (room_of_lem (map f l) o))
 
   -- what holds of each one's parts holds of all parts
-  joined : {B : Type 0} (p : A → Bool) (q : B → Bool) (parts : A → List B) → ((x : A) → T (p x) → T (all_of q (parts x))) → (l : List A) → T (all_of p l) → T (all_of q (flatten (map parts l)))
-  joined p q parts s l h = rw (← all_concat q (map parts l)) (all_map p (all_of q) parts s l h)
+  joined : {B : Type 0} (p : A → Bool) (q : B → Bool) (parts : A → List B) → ((x : A) → T (p x) → T (list_all q (parts x))) → (l : List A) → T (list_all p l) → T (list_all q (flatten (map parts l)))
+  joined p q parts s l h = rw (← all_concat q (map parts l)) (all_map p (list_all q) parts s l h)
 
 abbrev good_row : TopologyRow → Bool
 good_row w = fits_row w && ordered_row w
@@ -109,34 +110,34 @@ good_row w = fits_row w && ordered_row w
 abbrev good_layer : TopologyLayer → Bool
 good_layer y = fits_layer y && ordered_layer y
 
-row_placed : (w : TopologyRow) → T (good_row w) → T (all_of (λ (a : Anchor). place (anchor_x a)) w.anchors)
+row_placed : (w : TopologyRow) → T (good_row w) → T (list_all (λ (a : Anchor). place (anchor_x a)) w.anchors)
 row_placed w h = let p = and_yes (fits_row w) (ordered_row w) h in places anchor_x w.anchors (xs_fit w p.0) p.1
 
 -- the rows of a layer
 module _ (y : TopologyLayer) (h : T (good_layer y)) where
-  fitting : T (all_of fits_row y.rows)
+  fitting : T (list_all fits_row y.rows)
   fitting = rows_of_lem y (and_yes (fits_layer y) (ordered_layer y) h).0
 
-  in_order : T (ordered (map topology_y y.rows)) × T (all_of ordered_row y.rows)
-  in_order = and_yes (ordered (map topology_y y.rows)) (all_of ordered_row y.rows) (and_yes (fits_layer y) (ordered_layer y) h).1
+  in_order : T (ordered (map topology_y y.rows)) × T (list_all ordered_row y.rows)
+  in_order = and_yes (ordered (map topology_y y.rows)) (list_all ordered_row y.rows) (and_yes (fits_layer y) (ordered_layer y) h).1
 
-  layer_good : T (all_of good_row y.rows)
+  layer_good : T (list_all good_row y.rows)
   layer_good = all_and fits_row ordered_row y.rows fitting in_order.1
 
-  layer_placed : T (all_of (λ (w : TopologyRow). place (topology_y w)) y.rows)
+  layer_placed : T (list_all (λ (w : TopologyRow). place (topology_y w)) y.rows)
   layer_placed = places topology_y y.rows (ys_fit y.rows fitting) in_order.0
 
 module _ (r : Room) (s : SoundRoom r) where
-  zs_placed : T (all_of (λ (y : TopologyLayer). place (topology_z y)) r.layers)
+  zs_placed : T (list_all (λ (y : TopologyLayer). place (topology_z y)) r.layers)
   zs_placed = places topology_z r.layers (zs_fit r.layers s.doubles) s.z_ordered
 
-  good_layers : T (all_of good_layer r.layers)
+  good_layers : T (list_all good_layer r.layers)
   good_layers = all_and fits_layer ordered_layer r.layers s.doubles s.layers_ordered
 
-  ys_placed : T (all_of (λ (w : TopologyRow). place (topology_y w)) (rows_in r))
+  ys_placed : T (list_all (λ (w : TopologyRow). place (topology_y w)) (rows_in r))
   ys_placed = joined good_layer (λ w. place (topology_y w)) topology_rows layer_placed r.layers good_layers
 
-  xs_placed : T (all_of (λ (a : Anchor). place (anchor_x a)) (anchors_in r))
+  xs_placed : T (list_all (λ (a : Anchor). place (anchor_x a)) (anchors_in r))
   xs_placed = joined good_row (λ a. place (anchor_x a)) topology_anchors row_placed (rows_in r) (joined good_layer good_row topology_rows layer_good r.layers good_layers)
 
 -- ---- entries that are told by their numbers

@@ -1,13 +1,13 @@
--- The entries of a list that is put together from two parts of a key, and the loop that writes it.
+-- A list that is put together from two parts of a key.
 use Prim.Native.Nat.{ℕ, ◌+◌, ◌≤◌, ◌<◌}
 use mathlib.Core.Path.{◌≡◌, sym, ap, ap₂, ◌∙◌}
 use mathlib.Core.List.{List}
 use native.Mathlib.Omega.{arith}
-use lib.ListN.{length, drop, get_or, set}
+use lib.ListN.{length, drop, get_or}
 use lib.Seq.{slice, length-slice, get_or-take, get_or-drop}
 use Rattle.lists.specs.Lists.{zip_with}
 use Rattle.lists.proofs.Chunks.{slice_take}
-use Rattle.lists.proofs.Fill.{Filled, fill_none, fill_more}
+use Rattle.std.proofs.lemmas.List.{ext_get_or}
 use Rattle.lists.proofs.Zips.{zip_length, zip_at}
 
 module _ {A : Type 0} (g : ℕ → ℕ → A) where
@@ -18,10 +18,12 @@ module _ {A : Type 0} (g : ℕ → ℕ → A) where
     as_long : length (slice a (a + n) key) ≡ length (slice b (b + n) key)
     as_long = omega (arith, length-slice a (a + n) key h, length-slice b (b + n) key k)
 
-    pub parts_none : (out : List A) → length out ≡ n → Filled n (zip_with g (slice a (a + n) key) (slice b (b + n) key)) out 0
-    parts_none out e = fill_none _ _ _ (zip_length g (slice a (a + n) key) (slice b (b + n) key) as_long ∙ omega (arith, length-slice a (a + n) key h)) e
+    parts_length : length (zip_with g (slice a (a + n) key) (slice b (b + n) key)) ≡ n
+    parts_length = zip_length g (slice a (a + n) key) (slice b (b + n) key) as_long ∙ omega (arith, length-slice a (a + n) key h)
 
-    pub parts_more : (out : List A) (i : ℕ) (x : A) → Filled n (zip_with g (slice a (a + n) key) (slice b (b + n) key)) out i → i < n → x ≡ g (get_or key (a + i) 0) (get_or key (b + i) 0) → Filled n (zip_with g (slice a (a + n) key) (slice b (b + n) key)) (set out i x) (i + 1)
-    parts_more out i x w j e =
-        fill_more n _ out i (g 0 0) x w j
-        (e ∙ sym (zip_at g (slice a (a + n) key) (slice b (b + n) key) i 0 0 (omega (arith, length-slice a (a + n) key h)) as_long ∙ ap₂ g (slice_at key a n i j) (slice_at key b n i j)))
+    -- a list is those entries where it is as long and each of its entries is
+    pub parts_are : (out : List A) → length out ≡ n → ((i : ℕ) → i < n → get_or out i (g 0 0) ≡ g (get_or key (a + i) 0) (get_or key (b + i) 0)) → out ≡ zip_with g (slice a (a + n) key) (slice b (b + n) key)
+    parts_are out e same =
+        ext_get_or (g 0 0) out (zip_with g (slice a (a + n) key) (slice b (b + n) key)) (e ∙ sym parts_length)
+        (λ i j. let k : i < n = omega arith in
+        same i k ∙ sym (zip_at g (slice a (a + n) key) (slice b (b + n) key) i 0 0 (omega (arith, length-slice a (a + n) key h)) as_long ∙ ap₂ g (slice_at key a n i k) (slice_at key b n i k)))

@@ -1,5 +1,5 @@
 -- A key as `pack` writes it, from a layout whose counts may say more than there is. Definitions only.
-use Rattle.std.specs.Prelude.{ℕ, List, [], ◌∷◌, ◌++◌, map, length}
+use Rattle.std.specs.Prelude.{ℕ, List, [], ◌∷◌, ◌++◌, map}
 use Rattle.std.proofs.Math.Seq.{paste}
 use Rattle.layout.specs.declared.Layer.{Layer}
 use Rattle.layout.specs.declared.Row.{Row}
@@ -34,9 +34,3 @@ packed_numbers l epoch =
 -- the first n of xs from place a on, and of ys from place b on
 abbrev pub two_parts : ℕ → List ℕ → ℕ → List ℕ → ℕ → List ℕ → List ℕ
 two_parts a xs b ys n key = paste (paste key a xs n) b ys n
-
-unfoldable pub topology_parts : Layout → List ℕ → List ℕ
-topology_parts l key =
-    two_parts 76 (map anchor_name l.anchors) 128 (map x_pattern l.anchors) (length (used_anchors l))
-    (two_parts 52 (map row_count l.rows) 104 (map y_pattern l.rows) (length (used_rows l))
-    (two_parts 48 (map layer_count l.layers) 100 (map z_pattern l.layers) (length (used_layers l)) key))

@@ -1,33 +1,15 @@
 // How many channels of the room in a key are active.
-ghost use Rattle.std.specs.Prelude.{◌≡◌, ◌+◌, ◌≤◌, eqb, length};
-ghost use Rattle.std.proofs.Math.Seq.{slice};
-ghost use Rattle.lists.specs.Lists.{filtered};
+ghost use Rattle.std.specs.Prelude.{◌≡◌};
 ghost use Rattle.layout.specs.Room.{active_in};
 ghost use Rattle.keys.specs.InKey.{room_in};
 
+use crate::parts::{FLAGS, USED};
 use channels::covered;
 
-// How many of the first `used` flags are 1: enabled and not LFE.
-fn ones(key: &[u64], used: usize) -> usize
-    requires key_len { length key.now ≡ 156 }
-    requires used_bound { used ≤ 24 }
-    ensures { result ≡ length (filtered (eqb 1) (slice 24 (24 + used) key.now)) }
+// n of the room in a key: how many of the channels' flags are 1, enabled and not LFE.
+pub fn active_count(key: &[u64; 156]) -> usize
+    ensures { result ≡ active_in (room_in key.now) }
 {
-    let mut n = 0usize;
-    let mut i = 0usize;
-    while i < used {
-        if key[24 + i] == 1 {
-            n += 1;
-        }
-        i += 1;
-    }
-    n
-}
-
-// n of the room in a key.
-pub fn active_count(k: &[u64; 156]) -> usize
-    ensures { result ≡ active_in (room_in k.now) }
-{
-    let key: &[u64] = k;
-    ones(key, covered(key[152] as usize))
+    let used = covered(key[USED] as usize);
+    key[FLAGS..FLAGS + used].iter().filter(|f| **f == 1).count()
 }

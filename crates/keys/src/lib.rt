@@ -3,9 +3,12 @@
 #![tactic(auto)]
 
 mod active;
+mod entry;
 mod packing;
+mod parts;
 mod unpacking;
 
 pub use active::active_count;
 pub use packing::pack;
+pub use parts::{ANCHOR_NAMES, DEPTH, EPOCH, FLAGS, LAYER_COUNTS, ROW_COUNTS, USED, XS, YS, ZS};
 pub use unpacking::unpack;

@@ -1,108 +1,31 @@
 // The layout in a key: what any 156 numbers hold.
-ghost use Rattle.std.specs.Prelude.{◌≡◌, length};
+ghost use Rattle.std.specs.Prelude.{◌≡◌, ◌+◌, ◌≤◌};
 ghost use Rattle.std.proofs.Math.Seq.{slice};
 ghost use Rattle.lists.specs.Lists.{zip_with};
-ghost use Rattle.keys.specs.InKey.{channel_in, layer_in, row_in, anchor_in, layout_in};
+ghost use Rattle.keys.specs.InKey.{layout_in};
 
-use doubles::of_bits;
-use layout::{Anchor, Channel, Layer, Layout, Row};
+use crate::entry::Entry;
+use crate::parts::{ANCHOR_NAMES, DEPTH, FLAGS, LAYER_COUNTS, ROW_COUNTS, USED, XS, YS, ZS};
+use layout::Layout;
 
-// Flags 1 and 3 say enabled, 2 and 3 LFE.
-fn channel_of(name: u64, flags: u64) -> Channel
-    ensures { result ≡ channel_in name flags }
+// The entries in two parts of a key: their first numbers stand from a and their second from b on.
+fn entries_in<E: Entry, const N: usize>(key: &[u64; 156], a: usize, b: usize) -> [E; N]
+    requires { (a + N ≤ 156) × (b + N ≤ 156) }
+    ensures { result ≡ zip_with E.made (slice a (a + N) key.now) (slice b (b + N) key.now) }
 {
-    Channel {
-        name: name,
-        enabled: (flags == 1) | (flags == 3),
-        lfe: (flags == 2) | (flags == 3),
-    }
-}
-
-// The 24 channels.
-fn channels_in(key: &[u64]) -> [Channel; 24]
-    requires { length key.now ≡ 156 }
-    ensures { result ≡ zip_with channel_in (slice 0 24 key.now) (slice 24 48 key.now) }
-{
-    let mut out = [Channel {
-        name: 0,
-        enabled: false,
-        lfe: false,
-    }; 24];
-    let mut i = 0usize;
-    while i < 24 {
-        out[i] = channel_of(key[i], key[24 + i]);
-        i += 1;
-    }
-    out
-}
-
-// The 4 layers.
-fn layers_in(key: &[u64]) -> [Layer; 4]
-    requires { length key.now ≡ 156 }
-    ensures { result ≡ zip_with layer_in (slice 48 52 key.now) (slice 100 104 key.now) }
-{
-    let mut out = [Layer { z: 0.0, count: 0 }; 4];
-    let mut i = 0usize;
-    while i < 4 {
-        let c = key[48 + i] as usize;
-        out[i] = Layer {
-            z: of_bits(key[100 + i]),
-            count: c,
-        };
-        i += 1;
-    }
-    out
-}
-
-// The 24 rows.
-fn rows_in(key: &[u64]) -> [Row; 24]
-    requires { length key.now ≡ 156 }
-    ensures { result ≡ zip_with row_in (slice 52 76 key.now) (slice 104 128 key.now) }
-{
-    let mut out = [Row { y: 0.0, count: 0 }; 24];
-    let mut i = 0usize;
-    while i < 24 {
-        let c = key[52 + i] as usize;
-        out[i] = Row {
-            y: of_bits(key[104 + i]),
-            count: c,
-        };
-        i += 1;
-    }
-    out
-}
-
-// The 24 anchors.
-fn anchors_in(key: &[u64]) -> [Anchor; 24]
-    requires { length key.now ≡ 156 }
-    ensures { result ≡ zip_with anchor_in (slice 76 100 key.now) (slice 128 152 key.now) }
-{
-    let mut out = [Anchor { name: 0, x: 0.0 }; 24];
-    let mut i = 0usize;
-    while i < 24 {
-        let n = key[76 + i];
-        out[i] = Anchor {
-            name: n,
-            x: of_bits(key[128 + i]),
-        };
-        i += 1;
-    }
-    out
+    std::array::from_fn(|i| E::of(key[a + i], key[b + i]))
 }
 
 // The layout in a key; a pattern of a NaN stands for NaN.
-pub fn unpack(k: &[u64; 156]) -> Layout
-    ensures { result ≡ layout_in k.now }
+pub fn unpack(key: &[u64; 156]) -> Layout
+    ensures { result ≡ layout_in key.now }
 {
-    let key: &[u64] = k;
-    let used = key[152] as usize;
-    let depth = key[153] as usize;
     Layout {
-        channels: channels_in(key),
-        used: used,
-        layers: layers_in(key),
-        depth: depth,
-        rows: rows_in(key),
-        anchors: anchors_in(key),
+        channels: entries_in(key, 0, FLAGS),
+        used: key[USED] as usize,
+        layers: entries_in(key, LAYER_COUNTS, ZS),
+        depth: key[DEPTH] as usize,
+        rows: entries_in(key, ROW_COUNTS, YS),
+        anchors: entries_in(key, ANCHOR_NAMES, XS),
     }
 }

@@ -20,3 +20,4 @@ pub mod TopologyFlat
 pub mod TopologyLists
 pub mod TopologyRanges
 pub mod TopologyStarts
+pub mod RefusalLaws

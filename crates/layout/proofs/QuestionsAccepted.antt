@@ -9,7 +9,8 @@ use lib.Ieee.{Float}
 use lib.ListN.{length, get_or, take, length-map, get_or-map}
 use lib.Seq.{slice, get_or-take, length-take-le}
 use borrow.Author.Tests.{leb-true, eqb-false, not-true}
-use Rattle.lists.specs.Lists.{all_of, elem, all_distinct, total}
+use Rattle.lists.specs.Lists.{elem, all_distinct, total}
+use Rattle.std.specs.List.{list_all}
 use Rattle.layout.specs.declared.Layout.{Layout}
 use Rattle.layout.specs.Name.{valid_name}
 use Rattle.layout.specs.Channels.{channels_of, channel_name, active, active_names, active_count}
@@ -29,7 +30,7 @@ use Rattle.layout.proofs.QuestionsOrdered.{question5_flat}
 -- ---- a test of each, of one
 
 -- of what a function made of the first n
-pub all_map_at : {A B : Type 0} (p : B → Bool) (f : A → B) (n : ℕ) (l : List A) (i : ℕ) (d : A) → all_of p (map f (take n l)) ≡ true → i < length (take n l) → i < n → p (f (get_or l i d)) ≡ true
+pub all_map_at : {A B : Type 0} (p : B → Bool) (f : A → B) (n : ℕ) (l : List A) (i : ℕ) (d : A) → list_all p (map f (take n l)) ≡ true → i < length (take n l) → i < n → p (f (get_or l i d)) ≡ true
 all_map_at p f n l i d e h k =
     rw (← get_or-take n l i d k, ← get_or-map f (take n l) i d) (all_at p (map f (take n l)) i (f d) e (rw (length-map (take n l) f) h))
 
@@ -67,12 +68,12 @@ all_yes l e =
 
 -- ---- what each answer says
 module _ (l : Layout) where
-  pub yes1 : question1 l ≡ true → (from_to 1 24 l.used ≡ true) × (all_of valid_name (map channel_name (channels_of l)) ≡ true) × (all_distinct (map channel_name (channels_of l)) ≡ true)
+  pub yes1 : question1 l ≡ true → (from_to 1 24 l.used ≡ true) × (list_all valid_name (map channel_name (channels_of l)) ≡ true) × (all_distinct (map channel_name (channels_of l)) ≡ true)
   unfolding question1
   yes1 e =
       let names = map channel_name (channels_of l) in
-      let p = both (from_to 1 24 l.used && all_of valid_name names) (all_distinct names) e in
-      let q = both (from_to 1 24 l.used) (all_of valid_name names) p.0 in
+      let p = both (from_to 1 24 l.used && list_all valid_name names) (all_distinct names) e in
+      let q = both (from_to 1 24 l.used) (list_all valid_name names) p.0 in
       (q.0, q.1, p.1)
 
   yes3 : question3 l ≡ true → 1 ≤ active_count l
@@ -81,20 +82,20 @@ module _ (l : Layout) where
       let f = eqb-false (active_count l) 0 n in
       omega arith
 
-  yes4 : question4 l ≡ true → (all_of (from_to 1 6) (map layer_count (used_layers l)) ≡ true) × (all_of (leb 1) (map row_count (used_rows l)) ≡ true) × (total (map row_count (used_rows l)) ≤ 24)
+  yes4 : question4 l ≡ true → (list_all (from_to 1 6) (map layer_count (used_layers l)) ≡ true) × (list_all (leb 1) (map row_count (used_rows l)) ≡ true) × (total (map row_count (used_rows l)) ≤ 24)
   unfolding question4
   yes4 e =
       let cs = map layer_count (used_layers l) in
       let ns = map row_count (used_rows l) in
-      let p = both (all_of (from_to 1 6) cs && all_of (leb 1) ns) (leb (total ns) 24) e in
-      let q = both (all_of (from_to 1 6) cs) (all_of (leb 1) ns) p.0 in
+      let p = both (list_all (from_to 1 6) cs && list_all (leb 1) ns) (leb (total ns) 24) e in
+      let q = both (list_all (from_to 1 6) cs) (list_all (leb 1) ns) p.0 in
       (q.0, q.1, leb-true (total ns) 24 p.1)
 
-  yes5 : question5 l ≡ true → (ordered (map topology_z (topology_of l)) ≡ true) × (all_of ordered_layer (topology_of l) ≡ true)
+  yes5 : question5 l ≡ true → (ordered (map topology_z (topology_of l)) ≡ true) × (list_all ordered_layer (topology_of l) ≡ true)
   unfolding question5
-  yes5 e = both (ordered (map topology_z (topology_of l))) (all_of ordered_layer (topology_of l)) e
+  yes5 e = both (ordered (map topology_z (topology_of l))) (list_all ordered_layer (topology_of l)) e
 
-  pub yes6 : question6 l ≡ true → all_of (λ (n : ℕ). elem n (active_names l)) (map anchor_name (used_anchors l)) ≡ true
+  pub yes6 : question6 l ≡ true → list_all (λ (n : ℕ). elem n (active_names l)) (map anchor_name (used_anchors l)) ≡ true
   unfolding question6
   yes6 e = e
 

@@ -8,7 +8,8 @@ use native.Mathlib.Omega.{arith}
 use lib.Dec.{leb, ltb}
 use lib.ListN.{length, take, length-map, length-take}
 use borrow.Author.Tests.{le-leb, lt-leb, le-ltb, lt-ltb, leb-true, leb-false}
-use Rattle.lists.specs.Lists.{all_of, total}
+use Rattle.lists.specs.Lists.{total}
+use Rattle.std.specs.List.{list_all}
 use Rattle.layout.specs.declared.Layout.{Layout}
 use Rattle.layout.specs.Topology.{used_layers, used_rows, row_count, layer_count}
 use Rattle.layout.specs.Questions.{from_to, question4}
@@ -39,10 +40,10 @@ outside a b n = ap₂ ◌||◌ (below a n) (below n b) ∙ neither (leb a n) (le
     neither false u = refl
 
 -- n counts from 1 to 6 make at most 6 n
-pub total_most : (cs : List ℕ) → all_of (from_to 1 6) cs ≡ true → total cs ≤ length cs * 6
+pub total_most : (cs : List ℕ) → list_all (from_to 1 6) cs ≡ true → total cs ≤ length cs * 6
 total_most [] e = omega arith
 total_most (c ∷ cs) e =
-    let p = both (from_to 1 6 c) (all_of (from_to 1 6) cs) e in
+    let p = both (from_to 1 6 c) (list_all (from_to 1 6) cs) e in
     let q = within 1 6 c p.0 in
     let r = total_most cs p.1 in
     omega arith
@@ -66,7 +67,7 @@ same_test false true t f = sym (above t (λ h. false≢true (f h)))
 same_test false false t f = refl
 
 -- counts whose sum is at most 24 are at most 24
-each_few : (cs : List ℕ) → total cs ≤ 24 → all_of (from_to 1 24) cs ≡ all_of (leb 1) cs
+each_few : (cs : List ℕ) → total cs ≤ 24 → list_all (from_to 1 24) cs ≡ list_all (leb 1) cs
 each_few [] h = refl
 each_few (c ∷ cs) h =
     ap₂ ◌&&◌ (ap (λ (b : Bool). leb 1 c && b) (le-leb c 24 (omega arith)) ∙ and-true (leb 1 c)) (each_few cs (omega arith))
@@ -79,15 +80,15 @@ module _ (l : Layout) where
   question4_not h k =
       let cs = map layer_count (used_layers l) in
       let n = length-map (used_layers l) layer_count ∙ length-take l.depth l.layers in
-      let e = large (all_of (from_to 1 6) cs) (total cs) (λ a. let m = total_most cs a in omega arith) k in
+      let e = large (list_all (from_to 1 6) cs) (total cs) (λ a. let m = total_most cs a in omega arith) k in
       rw e
 
   pub question4_is : (rows : ℕ) → rows ≡ counted_to 6 (map layer_count (used_layers l)) → rows ≤ 24 → leb (counted_to 24 (map row_count (take rows l.rows))) 24 ≡ question4 l
   unfolding question4
   question4_is rows e h =
       let cs = map layer_count (used_layers l) in
-      let s = small (all_of (from_to 1 6) cs) (total cs) (omega arith) in
+      let s = small (list_all (from_to 1 6) cs) (total cs) (omega arith) in
       let ns = map row_count (used_rows l) in
       ap (λ (n : ℕ). leb (counted_to 24 (map row_count (take n l.rows))) 24) (e ∙ s.1)
-      ∙ same_test (all_of (from_to 1 24) ns) (all_of (leb 1) ns) (total ns) (each_few ns)
+      ∙ same_test (list_all (from_to 1 24) ns) (list_all (leb 1) ns) (total ns) (each_few ns)
       ∙ rw s.0

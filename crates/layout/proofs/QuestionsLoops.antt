@@ -6,15 +6,16 @@ use mathlib.Core.List.{List, [], ◌∷◌}
 use native.Mathlib.Omega.{arith}
 use lib.Dec.{T, eqb}
 use lib.ListN.{length, get_or}
-use Rattle.lists.specs.Lists.{all_of, index_of}
+use Rattle.lists.specs.Lists.{index_of}
+use Rattle.std.specs.List.{list_all}
 use Rattle.layout.proofs.QuestionsCounted.{both}
 
 -- ---- a test of each
 module _ {A : Type 0} (p : A → Bool) (l : List A) (x : A) (xs : List A) (e : l ≡ x ∷ xs) where
-  pub all_not : p x ≡ false → all_of p l ≡ false
+  pub all_not : p x ≡ false → list_all p l ≡ false
   all_not q = rw (e, q)
 
-  pub all_next : p x ≡ true → all_of p l ≡ all_of p xs
+  pub all_next : p x ≡ true → list_all p l ≡ list_all p xs
   all_next q = rw (e, q)
 
 -- a test as a fact
@@ -26,10 +27,10 @@ is_true true t = refl
 is_true false t = absurd t
 
 -- of one
-pub all_at : {A : Type 0} (p : A → Bool) (l : List A) (i : ℕ) (d : A) → all_of p l ≡ true → i < length l → p (get_or l i d) ≡ true
+pub all_at : {A : Type 0} (p : A → Bool) (l : List A) (i : ℕ) (d : A) → list_all p l ≡ true → i < length l → p (get_or l i d) ≡ true
 all_at p [] i d e h = absurd (omega arith)
-all_at p (x ∷ l) zero d e h = (both (p x) (all_of p l) e).0
-all_at p (x ∷ l) (suc i) d e h = all_at p l i d (both (p x) (all_of p l) e).1 (omega arith)
+all_at p (x ∷ l) zero d e h = (both (p x) (list_all p l) e).0
+all_at p (x ∷ l) (suc i) d e h = all_at p l i d (both (p x) (list_all p l) e).1 (omega arith)
 
 -- ---- the index of a name
 pub place_most : (x : ℕ) (l : List ℕ) → index_of x l ≤ length l

@@ -7,7 +7,8 @@ use native.Mathlib.Numerals.{add-one}
 use native.Mathlib.Omega.{arith}
 use lib.Ieee.{Float}
 use lib.ListN.{length, take, length-map, length-take}
-use Rattle.lists.specs.Lists.{all_of, chunks, total}
+use Rattle.lists.specs.Lists.{chunks, total}
+use Rattle.std.specs.List.{list_all}
 use Rattle.lists.proofs.Takes.{map_take}
 use Rattle.layout.specs.declared.Anchor.{Anchor}
 use Rattle.layout.specs.declared.Row.{Row}
@@ -21,40 +22,40 @@ use Rattle.layout.proofs.TopologyLists.{all_both, all_map, all_concat, map_chunk
 use Rattle.layout.proofs.TopologyStarts.{topology_anchors, topology_rows, rows_y, rows_anchors, rows_take, layers_z, layers_rows, parts, starts_parts, starts_take}
 
 -- each part between starts
-pub parts_ordered_lem : (xs : List Float) (starts : List ℕ) → parts_ordered xs starts ≡ all_of ordered (parts starts xs)
+pub parts_ordered_lem : (xs : List Float) (starts : List ℕ) → parts_ordered xs starts ≡ list_all ordered (parts starts xs)
 unfolding parts_ordered
 parts_ordered_lem xs [] = refl
 parts_ordered_lem xs (a ∷ []) = refl
 parts_ordered_lem xs (a ∷ b ∷ starts) = rw (parts_ordered_lem xs (b ∷ starts))
 
 -- the x of each row
-pub rows_ordered : (rs : List Row) (xs : List Anchor) → all_of ordered_row (rows_of rs xs) ≡ all_of ordered (chunks (map row_count rs) (map anchor_x xs))
+pub rows_ordered : (rs : List Row) (xs : List Anchor) → list_all ordered_row (rows_of rs xs) ≡ list_all ordered (chunks (map row_count rs) (map anchor_x xs))
 rows_ordered rs xs =
     all_map topology_anchors (λ (l : List Anchor). ordered (map anchor_x l)) (rows_of rs xs)
-    ∙ ap (all_of (λ (l : List Anchor). ordered (map anchor_x l))) (rows_anchors rs xs)
+    ∙ ap (list_all (λ (l : List Anchor). ordered (map anchor_x l))) (rows_anchors rs xs)
     ∙ all_map (map anchor_x) ordered (chunks (map row_count rs) xs)
-    ∙ ap (all_of ordered) (map_chunks anchor_x (map row_count rs) xs)
+    ∙ ap (list_all ordered) (map_chunks anchor_x (map row_count rs) xs)
 
 -- the y of each layer's rows, and the x of each of their rows
 pub layers_ordered_lem : (ls : List Layer) (rs : List Row) (xs : List Anchor) →
-    all_of ordered_layer (layers_of ls (rows_of rs xs))
-    ≡ (all_of ordered (chunks (map layer_count ls) (map row_y rs)) && all_of ordered (chunks (map row_count (take (total (map layer_count ls)) rs)) (map anchor_x xs)))
+    list_all ordered_layer (layers_of ls (rows_of rs xs))
+    ≡ (list_all ordered (chunks (map layer_count ls) (map row_y rs)) && list_all ordered (chunks (map row_count (take (total (map layer_count ls)) rs)) (map anchor_x xs)))
 layers_ordered_lem ls rs xs =
     let cs = map layer_count ls in
     let ts = rows_of rs xs in
     let y : List TopologyRow → Bool = λ l. ordered (map topology_y l) in
-    all_map topology_rows (λ (l : List TopologyRow). y l && all_of ordered_row l) (layers_of ls ts)
-    ∙ ap (all_of (λ (l : List TopologyRow). y l && all_of ordered_row l)) (layers_rows ls ts)
-    ∙ all_both y (all_of ordered_row) (chunks cs ts)
+    all_map topology_rows (λ (l : List TopologyRow). y l && list_all ordered_row l) (layers_of ls ts)
+    ∙ ap (list_all (λ (l : List TopologyRow). y l && list_all ordered_row l)) (layers_rows ls ts)
+    ∙ all_both y (list_all ordered_row) (chunks cs ts)
     ∙ ap₂ ◌&&◌
-    (all_map (map topology_y) ordered (chunks cs ts) ∙ ap (all_of ordered) (map_chunks topology_y cs ts ∙ ap (chunks cs) (rows_y rs xs)))
-    (all_concat ordered_row (chunks cs ts) ∙ ap (all_of ordered_row) (concat_chunks cs ts ∙ rows_take (total cs) rs xs) ∙ rows_ordered (take (total cs) rs) xs)
+    (all_map (map topology_y) ordered (chunks cs ts) ∙ ap (list_all ordered) (map_chunks topology_y cs ts ∙ ap (chunks cs) (rows_y rs xs)))
+    (all_concat ordered_row (chunks cs ts) ∙ ap (list_all ordered_row) (concat_chunks cs ts ∙ rows_take (total cs) rs xs) ∙ rows_ordered (take (total cs) rs) xs)
 
 -- the first n parts by counts are those between the first n + 1 starts
 pub parts_flat : {A : Type 0} (count : A → ℕ) (n : ℕ) (l : List A) (xs : List Float) → n ≤ length l → length xs ≤ 24 →
-    all_of ordered (chunks (map count (take n l)) xs) ≡ parts_ordered xs (take (n + 1) (starts_from 0 (map count l)))
+    list_all ordered (chunks (map count (take n l)) xs) ≡ parts_ordered xs (take (n + 1) (starts_from 0 (map count l)))
 parts_flat count n l xs h k =
-    ap (all_of ordered)
+    ap (list_all ordered)
     (starts_parts (map count (take n l)) 0 xs k
     ∙ ap (λ (s : List ℕ). parts s xs)
     (ap (starts_from 0) (map_take count n l) ∙ starts_take n (map count l) 0 (rw (length-map l count) h) ∙ ap (λ (m : ℕ). take m (starts_from 0 (map count l))) (sym (add-one n))))
@@ -77,6 +78,6 @@ question5_flat l e f g h =
     (layers_ordered_lem (used_layers l) l.rows l.anchors
     ∙ ap₂ ◌&&◌
     (parts_flat layer_count l.depth l.layers (map row_y l.rows) (omega arith) (rw (length-map l.rows row_y) (omega arith)))
-    (ap (λ (r : List Row). all_of ordered (chunks (map row_count r) (map anchor_x l.anchors))) (sym used)
+    (ap (λ (r : List Row). list_all ordered (chunks (map row_count r) (map anchor_x l.anchors))) (sym used)
     ∙ parts_flat row_count (length (used_rows l)) l.rows (map anchor_x l.anchors) few (rw (length-map l.anchors anchor_x) (omega arith))))
     ∙ sym (and_assoc (ordered (take l.depth (map layer_z l.layers))) _ _))

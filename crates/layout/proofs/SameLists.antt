@@ -4,9 +4,10 @@ use mathlib.Core.Bool.{Bool, true}
 use mathlib.Core.List.{List, [], ◌∷◌, map}
 use lib.Dec.{T}
 use mir.Facts.{and_yes}
-use Rattle.lists.specs.Lists.{all_of, all_same}
+use Rattle.lists.specs.Lists.{all_same}
+use Rattle.std.specs.List.{list_all}
 
-pub all_true : {A : Type 0} (xs : List A) → T (all_of (λ (x : A). true) xs)
+pub all_true : {A : Type 0} (xs : List A) → T (list_all (λ (x : A). true) xs)
 all_true [] = tt
 all_true (x ∷ xs) = all_true xs
 

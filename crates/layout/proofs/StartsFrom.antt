@@ -5,7 +5,8 @@ use mathlib.Core.List.{List, [], ◌∷◌, map}
 use native.Mathlib.Nat.{zero-add}
 use native.Mathlib.Numerals.{add-one}
 use native.Mathlib.Omega.{arith}
-use lib.ListN.{length, get_or, take, set, length-map, length-take}
+use lib.ListN.{length, get_or, take, set, replicate, length-map, length-take}
+use Rattle.std.proofs.lemmas.List.{length-replicate}
 use Rattle.lists.specs.Lists.{total}
 use Rattle.lists.proofs.Takes.{take_min, map_take}
 use Rattle.lists.proofs.Fill.{Filled, fill_none, fill_more}
@@ -42,25 +43,25 @@ starts_used f n k xs ys p q =
     let t = starts_total 0 (map f xs) (min k n) (omega arith) (omega arith) in
     rw (take_min k n (map f xs) (omega arith), ← map_take f k xs, zero-add) at t ∙ rw (← q) (sym (length-take _ ys))
 
--- ---- the loop that writes the starts of n parts: the first i + 1 are written, and s is the last of them
-pub record Started (n : ℕ) (cs out : List ℕ) (s i : ℕ) : Type 0 where
-  pub counts : length cs ≡ n
-  pub small : s ≤ 24
+-- ---- the loop that writes the starts of parts: the first i + 1 are written, and s is the last of them
+pub record Started (cs out : List ℕ) (s i : ℕ) : Type 0 where
   pub last : s ≡ get_or (starts_from 0 cs) i 0
-  pub written : Filled (suc n) (starts_from 0 cs) out (i + 1)
+  pub written : Filled (length cs + 1) (starts_from 0 cs) out (i + 1)
 
-module _ (n : ℕ) (cs out : List ℕ) where
-  pub start_none : length cs ≡ n → length out ≡ suc n → Started n cs (set out 0 0) 0 0
-  start_none p q =
-      let e = starts_length 0 cs in
+module _ (cs : List ℕ) where
+  long_enough : length (starts_from 0 cs) ≡ length cs + 1
+  long_enough = rw add-one (starts_length 0 cs)
+
+  -- before the loop there are zeros alone
+  pub start_none : (n : ℕ) → n ≡ length cs + 1 → Started cs (replicate n 0) 0 0
+  start_none n p =
+      let first : replicate {A = ℕ} n 0 ≡ set (replicate {A = ℕ} n 0) 0 0 = rw (p, add-one) in
       record {
-        counts = p;
-        small = omega arith;
         last = sym (starts_first 0 cs);
-        written = fill_more (suc n) (starts_from 0 cs) out 0 0 0 (fill_none (suc n) (starts_from 0 cs) out (omega arith) q) (omega arith) (sym (starts_first 0 cs));
+        written = rw first (fill_more (length cs + 1) (starts_from 0 cs) (replicate n 0) 0 0 0 (fill_none _ _ _ long_enough (length-replicate n 0 ∙ p)) (omega arith) (sym (starts_first 0 cs)));
       }
 
-  pub start_more : (s i c t : ℕ) → Started n cs out s i → i < n → c ≡ get_or cs i 0 → t ≡ min (s + c) 24 → Started n cs (set out (i + 1) t) t (i + 1)
-  start_more s i c t w h p q =
-      let next : t ≡ get_or (starts_from 0 cs) (i + 1) 0 = rw (q, w.last, p, add-one) (sym (starts_next 0 cs i (omega arith))) in
-      record { counts = w.counts; small = omega arith; last = next; written = fill_more (suc n) (starts_from 0 cs) out (i + 1) 0 t w.written (omega arith) next }
+  pub start_more : (out : List ℕ) (s i c t : ℕ) → Started cs out s i → i < length cs → c ≡ get_or cs i 0 → t ≡ min (s + c) 24 → Started cs (set out (i + 1) t) t (i + 1)
+  start_more out s i c t w h p q =
+      let next : t ≡ get_or (starts_from 0 cs) (i + 1) 0 = rw (q, w.last, p, add-one) (sym (starts_next 0 cs i h)) in
+      record { last = next; written = fill_more (length cs + 1) (starts_from 0 cs) out (i + 1) 0 t w.written (omega arith) next }

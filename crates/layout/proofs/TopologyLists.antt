@@ -7,7 +7,8 @@ use native.Mathlib.Nat.{zero-min, suc-min-suc}
 use native.Mathlib.Omega.{arith}
 use lib.ListN.{length, get_or, take, drop}
 use lib.Seq.{drop-nil, take-add}
-use Rattle.lists.specs.Lists.{all_of, total, chunks, flatten}
+use Rattle.lists.specs.Lists.{total, chunks, flatten}
+use Rattle.std.specs.List.{list_all}
 use Rattle.lists.proofs.Takes.{map_take}
 
 module _ {A : Type 0} where
@@ -30,17 +31,17 @@ module _ {A : Type 0} where
   concat_chunks (n ∷ ns) xs = ap (λ (r : List A). take n xs ++ r) (concat_chunks ns (drop n xs)) ∙ sym (take-add n (total ns) xs)
 
   -- ---- tests
-  pub all_append : (p : A → Bool) (xs ys : List A) → all_of p (xs ++ ys) ≡ (all_of p xs && all_of p ys)
+  pub all_append : (p : A → Bool) (xs ys : List A) → list_all p (xs ++ ys) ≡ (list_all p xs && list_all p ys)
   all_append p [] ys = refl
-  all_append p (x ∷ xs) ys = rw (all_append p xs ys) (sym (and_assoc (p x) (all_of p xs) (all_of p ys)))
+  all_append p (x ∷ xs) ys = rw (all_append p xs ys) (sym (and_assoc (p x) (list_all p xs) (list_all p ys)))
 
-  pub all_concat : (p : A → Bool) (xss : List (List A)) → all_of (all_of p) xss ≡ all_of p (flatten xss)
+  pub all_concat : (p : A → Bool) (xss : List (List A)) → list_all (list_all p) xss ≡ list_all p (flatten xss)
   all_concat p [] = refl
   all_concat p (xs ∷ xss) = rw (all_append p xs (flatten xss), all_concat p xss)
 
-  pub all_both : (p q : A → Bool) (xs : List A) → all_of (λ x. p x && q x) xs ≡ (all_of p xs && all_of q xs)
+  pub all_both : (p q : A → Bool) (xs : List A) → list_all (λ x. p x && q x) xs ≡ (list_all p xs && list_all q xs)
   all_both p q [] = refl
-  all_both p q (x ∷ xs) = rw (all_both p q xs) (exchange (p x) (q x) (all_of p xs) (all_of q xs))
+  all_both p q (x ∷ xs) = rw (all_both p q xs) (exchange (p x) (q x) (list_all p xs) (list_all q xs))
     where
       exchange : (a b c d : Bool) → (a && b && (c && d)) ≡ (a && c && (b && d))
       exchange true true c d = refl
@@ -59,7 +60,7 @@ module _ {A B : Type 0} (f : A → B) where
   map_chunks (n ∷ ns) xs =
       ap₂ (λ (a : List B) (r : List (List B)). a ∷ r) (map_take f n xs) (map_chunks ns (drop n xs) ∙ ap (chunks ns) (map_drop n xs))
 
-  pub all_map : (p : B → Bool) (xs : List A) → all_of (λ x. p (f x)) xs ≡ all_of p (map f xs)
+  pub all_map : (p : B → Bool) (xs : List A) → list_all (λ x. p (f x)) xs ≡ list_all p (map f xs)
   all_map p [] = refl
   all_map p (x ∷ xs) = ap (λ (b : Bool). p (f x) && b) (all_map p xs)
 

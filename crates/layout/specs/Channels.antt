@@ -1,6 +1,6 @@
 -- The channels of a layout. Definitions only.
 use Rattle.std.specs.Prelude.{ℕ, Bool, false, ◌&&◌, not, List, map, take, length}
-use Rattle.lists.specs.Lists.{filtered}
+use Rattle.std.specs.List.{filter}
 use Rattle.layout.specs.declared.Channel.{Channel}
 use Rattle.layout.specs.declared.Layout.{Layout}
 
@@ -17,7 +17,7 @@ channel_name c = c.name
 
 -- the names of the active channels, in list order
 abbrev pub active_names : Layout → List ℕ
-active_names l = map channel_name (filtered active (channels_of l))
+active_names l = map channel_name (filter active (channels_of l))
 
 -- n: how many channels are active
 abbrev pub active_count : Layout → ℕ

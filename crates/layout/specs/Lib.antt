@@ -6,3 +6,4 @@ pub mod Room
 pub mod Same
 pub mod Build
 pub mod Steps
+pub mod Refusals

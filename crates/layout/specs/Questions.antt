@@ -4,7 +4,8 @@ use Rattle.std.specs.Float.Ieee.{lt}
 use Rattle.std.specs.Float.Ieee.Scale.{finite}
 use Rattle.doubles.specs.Arithmetic.{one64, minus_one64}
 use Rattle.doubles.specs.Range.{is_between}
-use Rattle.lists.specs.Lists.{all_of, any_of, elem, all_distinct, chain, total}
+use Rattle.lists.specs.Lists.{elem, all_distinct, chain, total}
+use Rattle.std.specs.List.{list_all, list_any}
 use Rattle.layout.specs.declared.Layout.{Layout}
 use Rattle.layout.specs.Name.{valid_name}
 use Rattle.layout.specs.Channels.{channels_of, channel_name, active, active_names}
@@ -31,7 +32,7 @@ unfoldable pub question1 : Layout → Bool
 unfolding valid_name
 question1 l =
     let names = map channel_name (channels_of l) in
-    from_to 1 24 l.used && all_of valid_name names && all_distinct names
+    from_to 1 24 l.used && list_all valid_name names && all_distinct names
 
 -- 2. Are there 1 to 4 layers?
 abbrev pub question2 : Layout → Bool
@@ -39,13 +40,13 @@ question2 l = from_to 1 4 l.depth
 
 -- 3. Is a channel active?
 abbrev pub question3 : Layout → Bool
-question3 l = any_of active (channels_of l)
+question3 l = list_any active (channels_of l)
 
 -- 4. Has each layer 1 to 6 rows, each row an anchor, and the layout at most 24 anchors?
 unfoldable pub question4 : Layout → Bool
 question4 l =
-    all_of (from_to 1 6) (map layer_count (used_layers l))
-    && all_of (leb 1) (map row_count (used_rows l))
+    list_all (from_to 1 6) (map layer_count (used_layers l))
+    && list_all (leb 1) (map row_count (used_rows l))
     && leb (total (map row_count (used_rows l))) 24
 
 -- finite, and from -1 to 1
@@ -54,7 +55,7 @@ in_room x = finite x && is_between minus_one64 one64 x
 
 -- each in the room, and strictly ascending
 abbrev pub ordered : List Float → Bool
-ordered xs = all_of in_room xs && chain lt xs
+ordered xs = list_all in_room xs && chain lt xs
 
 abbrev pub ordered_row : TopologyRow → Bool
 ordered_row r = ordered (map anchor_x r.anchors)
@@ -66,15 +67,15 @@ abbrev pub topology_z : TopologyLayer → Float
 topology_z l = l.z
 
 abbrev pub ordered_layer : TopologyLayer → Bool
-ordered_layer l = ordered (map topology_y l.rows) && all_of ordered_row l.rows
+ordered_layer l = ordered (map topology_y l.rows) && list_all ordered_row l.rows
 
 -- 5. Is each layer z, row y and anchor x finite, from −1 to 1, and strictly ascending (z over layers, y within a layer, x within a row)?
 unfoldable pub question5 : Layout → Bool
-question5 l = ordered (map topology_z (topology_of l)) && all_of ordered_layer (topology_of l)
+question5 l = ordered (map topology_z (topology_of l)) && list_all ordered_layer (topology_of l)
 
 -- 6. Does each anchor name an active channel?
 unfoldable pub question6 : Layout → Bool
-question6 l = all_of (λ (n : ℕ). elem n (active_names l)) (map anchor_name (used_anchors l))
+question6 l = list_all (λ (n : ℕ). elem n (active_names l)) (map anchor_name (used_anchors l))
 
 unfoldable pub layout_questions : Layout → List Question
 unfolding question1 question4 question5 question6

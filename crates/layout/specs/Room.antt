@@ -1,6 +1,7 @@
 -- A room as lists: what a layout is once its counts have been asked about; entries past a count are no part of it. Definitions only.
 use Rattle.std.specs.Prelude.{ℕ, List, map, length}
-use Rattle.lists.specs.Lists.{filtered, flatten}
+use Rattle.lists.specs.Lists.{flatten}
+use Rattle.std.specs.List.{filter}
 use Rattle.layout.specs.declared.Channel.{Channel}
 use Rattle.layout.specs.declared.Anchor.{Anchor}
 use Rattle.layout.specs.declared.Layout.{Layout}
@@ -17,7 +18,7 @@ room_of l = record { channels = channels_of l; layers = topology_of l }
 
 -- the names of the active channels, in list order, and n: how many there are
 abbrev pub names_in : Room → List ℕ
-names_in r = map channel_name (filtered active r.channels)
+names_in r = map channel_name (filter active r.channels)
 
 abbrev pub active_in : Room → ℕ
 active_in r = length (names_in r)

@@ -9,7 +9,7 @@ use crate::{Anchor, Channel, Layer, Layout, Row};
 fn one_more(n: usize) -> usize
     ensures { result ≡ one_more n }
 {
-    if n < 18446744073709551615 { n + 1 } else { n }
+    n.saturating_add(1)
 }
 
 impl Layout {
@@ -26,12 +26,12 @@ impl Layout {
         let rows = [Row { y: 0.0, count: 0 }; 24];
         let anchors = [Anchor { name: 0, x: 0.0 }; 24];
         Layout {
-            channels: channels,
+            channels,
             used: 0,
-            layers: layers,
+            layers,
             depth: 0,
-            rows: rows,
-            anchors: anchors,
+            rows,
+            anchors,
         }
     }
 
@@ -55,7 +55,7 @@ impl Layout {
         let mut l = self;
         let at = l.depth;
         if at < 4 {
-            l.layers[at] = Layer { z: z, count: 0 };
+            l.layers[at] = Layer { z, count: 0 };
         }
         l.depth = one_more(at);
         l
@@ -72,13 +72,9 @@ impl Layout {
             return l;
         }
         let at = row_total(l);
-        let last = l.layers[depth - 1];
-        l.layers[depth - 1] = Layer {
-            z: last.z,
-            count: one_more(last.count),
-        };
+        l.layers[depth - 1].count = one_more(l.layers[depth - 1].count);
         if at < 24 {
-            l.rows[at] = Row { y: y, count: 0 };
+            l.rows[at] = Row { y, count: 0 };
         }
         l
     }
@@ -98,11 +94,7 @@ impl Layout {
         }
         let row = row_total(l) - 1;
         let at = anchor_total(l);
-        let last = l.rows[row];
-        l.rows[row] = Row {
-            y: last.y,
-            count: one_more(last.count),
-        };
+        l.rows[row].count = one_more(l.rows[row].count);
         if at < 24 {
             l.anchors[at] = a;
         }

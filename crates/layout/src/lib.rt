@@ -6,9 +6,13 @@
 #![tactic(auto)]
 
 mod build;
+mod refusal;
 mod starts;
 
-pub use starts::{anchor_starts, anchor_total, covered_layers, next_start, row_starts, row_total};
+pub use refusal::Refusal;
+pub use starts::{
+    anchor_starts, anchor_total, covered_layers, next_start, reach, row_starts, row_total,
+};
 
 // A name is up to eight bytes, the first one lowest, with zeros behind.
 #[derive(Clone, Copy)]

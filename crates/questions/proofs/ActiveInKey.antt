@@ -7,17 +7,18 @@ use native.Mathlib.Numerals.{one-add}
 use native.Mathlib.Omega.{arith}
 use borrow.Author.Tests.{eq-eqb, eqb-true, lt-ltb, ltb-true, not-true}
 use lib.Dec.{eqb, ltb}
-use lib.ListN.{length, take, get_or, length-map, get_or-map}
-use Rattle.lists.specs.Lists.{filtered, elem, all_distinct, index_of}
+use lib.ListN.{length, get_or, length-map, get_or-map}
+use Rattle.lists.specs.Lists.{elem, all_distinct, index_of}
+use Rattle.std.specs.List.{filter}
 use Rattle.lists.proofs.Tests.{place_at}
 use Rattle.layout.specs.declared.Channel.{Channel}
 use Rattle.layout.specs.Channels.{channel_name, active, no_channel}
 use Rattle.layout.proofs.QuestionsCounted.{both}
-use Rattle.questions.specs.Steps.KeyNames.{index_in, is_active_name}
+use Rattle.questions.specs.Steps.KeyNames.{is_active_name}
 
 -- the names of active channels
 abbrev named : List Channel → List ℕ
-named cs = map channel_name (filtered active cs)
+named cs = map channel_name (filter active cs)
 
 -- the name of an active channel is one of them
 active_named : (cs : List Channel) (i : ℕ) → i < length cs → active (get_or cs i no_channel) ≡ true → elem (channel_name (get_or cs i no_channel)) (named cs) ≡ true
@@ -25,7 +26,7 @@ active_named [] i h e = absurd (omega arith)
 active_named (c ∷ cs) zero h e = rw (e, eq-eqb (channel_name c) (channel_name c) refl)
 active_named (c ∷ cs) (suc i) h e = go (active c) (active_named cs i (omega arith) e)
   where
-    go : (b : Bool) → elem (channel_name (get_or cs i no_channel)) (named cs) ≡ true → elem (channel_name (get_or cs i no_channel)) (map channel_name (cond b (c ∷ filtered active cs) (filtered active cs))) ≡ true
+    go : (b : Bool) → elem (channel_name (get_or cs i no_channel)) (named cs) ≡ true → elem (channel_name (get_or cs i no_channel)) (map channel_name (cond b (c ∷ filter active cs) (filter active cs))) ≡ true
     go true f = rw (f, or-true)
     go false f = f
 
@@ -33,7 +34,7 @@ active_named (c ∷ cs) (suc i) h e = go (active c) (active_named cs i (omega ar
 named_first : (x : ℕ) (c : Channel) (cs : List Channel) → elem x (named (c ∷ cs)) ≡ cond (active c) (eqb (channel_name c) x || elem x (named cs)) (elem x (named cs))
 named_first x c cs = go (active c)
   where
-    go : (b : Bool) → elem x (map channel_name (cond b (c ∷ filtered active cs) (filtered active cs))) ≡ cond b (eqb (channel_name c) x || elem x (named cs)) (elem x (named cs))
+    go : (b : Bool) → elem x (map channel_name (cond b (c ∷ filter active cs) (filter active cs))) ≡ cond b (eqb (channel_name c) x || elem x (named cs)) (elem x (named cs))
     go true = refl
     go false = refl
 
@@ -70,27 +71,26 @@ named_place x (c ∷ cs) d e =
     go true q n f ih = (omega arith, here (active c) refl (eqb-true (channel_name c) x q) n f)
     go false q n f ih = let r = ih (rest (active c) (elem x (named cs)) f) in rw one-add (omega (arith, r.0), r.1)
 
-module _ (cs : List Channel) (key : List ℕ) (n : ℕ) (k : length cs ≡ n) (names : take n key ≡ map channel_name cs) (flag_at : (i : ℕ) → i < n → eqb (get_or key (24 + i) 0) 1 ≡ active (get_or cs i no_channel)) where
-  active_by_key : (w : ℕ) → is_active_name key n w ≡ true → elem w (named cs) ≡ true
+module _ (cs : List Channel) (names flags : List ℕ) (names_are : names ≡ map channel_name cs) (flag_at : (i : ℕ) → i < length names → eqb (get_or flags i 0) 1 ≡ active (get_or cs i no_channel)) where
+  active_by_key : (w : ℕ) → is_active_name names flags w ≡ true → elem w (named cs) ≡ true
   active_by_key w e =
-      let p = index_in key n w in
-      let b = both (ltb p n) (eqb (get_or key (24 + p) 0) 1) e in
-      let h : p < n = ltb-true p n b.0 in
-      let long : length (take n key) ≡ n = ap length names ∙ length-map cs channel_name ∙ k in
-      let name : channel_name (get_or cs p no_channel) ≡ w =
-      sym (get_or-map channel_name cs p no_channel) ∙ ap (λ (l : List ℕ). get_or l p 0) (sym names) ∙ place_at w (take n key) (omega arith) in
+      let p = index_of w names in
+      let b = both (ltb p (length names)) (eqb (get_or flags p 0) 1) e in
+      let h : p < length names = ltb-true p (length names) b.0 in
+      let long : length names ≡ length cs = ap length names_are ∙ length-map cs channel_name in
+      let name : channel_name (get_or cs p no_channel) ≡ w = sym (get_or-map channel_name cs p no_channel) ∙ ap (λ (l : List ℕ). get_or l p 0) (sym names_are) ∙ place_at w names h in
       rw name at (active_named cs p (omega arith) (sym (flag_at p h) ∙ b.1))
 
-  active_in_key : all_distinct (map channel_name cs) ≡ true → (w : ℕ) → elem w (named cs) ≡ true → is_active_name key n w ≡ true
+  active_in_key : all_distinct (map channel_name cs) ≡ true → (w : ℕ) → elem w (named cs) ≡ true → is_active_name names flags w ≡ true
   active_in_key d w e =
-      let p = index_in key n w in
-      let q : p ≡ index_of w (map channel_name cs) = ap (index_of w) names in
+      let p = index_of w names in
+      let q : p ≡ index_of w (map channel_name cs) = ap (index_of w) names_are in
       let r = named_place w cs d e in
-      let h : p < n = omega (arith, q, r.0, k) in
-      rw (lt-ltb p n h) (flag_at p h ∙ ap (λ (i : ℕ). active (get_or cs i no_channel)) q ∙ r.1)
+      let h : p < length names = omega (arith, q, r.0, ap length names_are, length-map cs channel_name) in
+      rw (lt-ltb p (length names) h) (flag_at p h ∙ ap (λ (i : ℕ). active (get_or cs i no_channel)) q ∙ r.1)
 
-  pub active_is : all_distinct (map channel_name cs) ≡ true → (w : ℕ) → is_active_name key n w ≡ elem w (named cs)
-  active_is d w = same (is_active_name key n w) (elem w (named cs)) (active_by_key w) (active_in_key d w)
+  pub active_is : all_distinct (map channel_name cs) ≡ true → (w : ℕ) → is_active_name names flags w ≡ elem w (named cs)
+  active_is d w = same (is_active_name names flags w) (elem w (named cs)) (active_by_key w) (active_in_key d w)
     where
       same : (a b : Bool) → (a ≡ true → b ≡ true) → (b ≡ true → a ≡ true) → a ≡ b
       same true b f g = sym (f refl)

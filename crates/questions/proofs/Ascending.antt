@@ -7,14 +7,12 @@ use mathlib.Core.Logic.{⊎_elim}
 use lib.Dec.{T}
 use lib.Ieee.{Float, nan, inf, fin, binary64, fits, lt, le, eq}
 use lib.Ieee.Bits.{of_bits-fits}
-use lib.ListN.{take}
-use lib.Seq.{slice}
 use mir.Facts.{and_yes, yes_and, or_yes}
 use Rattle.doubles.specs.Arithmetic.{one64, minus_one64}
 use Rattle.doubles.proofs.Alike.{alike_of, lt_same, same_lt}
-use Rattle.lists.specs.Lists.{all_of, chain_from}
+use Rattle.lists.specs.Lists.{chain_from}
+use Rattle.std.specs.List.{list_all}
 use Rattle.layout.specs.Questions.{in_room, ordered}
-use Rattle.layout.proofs.Coordinates.{all_taken, all_dropped}
 use Rattle.layout.proofs.LessThan.{less_trans}
 use Rattle.layout.proofs.QuestionsLoops.{holds, is_true}
 use Rattle.keys.specs.InKey.{double}
@@ -52,7 +50,7 @@ last_of x (y ∷ ys) = last_of y ys
 abbrev pub goes_on : Float → List Float → Bool
 goes_on x ys = chain_from lt x ys && le (last_of x ys) one64
 
-from_first : (x : Float) (ys : List Float) → T (fits binary64 x) → T (all_of (fits binary64) ys) → (le minus_one64 x && goes_on x ys) ≡ ordered (x ∷ ys)
+from_first : (x : Float) (ys : List Float) → T (fits binary64 x) → T (list_all (fits binary64) ys) → (le minus_one64 x && goes_on x ys) ≡ ordered (x ∷ ys)
 from_first x [] f h = rw in_room_lem (go (le minus_one64 x) (le x one64))
   where
     go : (a b : Bool) → (a && (true && b)) ≡ (((a && b) && true) && true)
@@ -60,9 +58,9 @@ from_first x [] f h = rw in_room_lem (go (le minus_one64 x) (le x one64))
     go true false = refl
     go false b = refl
 from_first x (y ∷ ys) f h =
-    let p = and_yes (fits binary64 y) (all_of (fits binary64) ys) h in
+    let p = and_yes (fits binary64 y) (list_all (fits binary64) ys) h in
     rw (in_room_lem x)
-    (go (le minus_one64 x) (le minus_one64 y) (lt x y) (le x one64) (in_room y) (all_of in_room ys) (chain_from lt y ys) (le (last_of y ys) one64)
+    (go (le minus_one64 x) (le minus_one64 y) (lt x y) (le x one64) (in_room y) (list_all in_room ys) (chain_from lt y ys) (le (last_of y ys) one64)
     (λ a b. is_true _ (above x y f (holds _ a) (holds _ b)))
     (λ a b. is_true _ (under x y p.0 (and_yes (le minus_one64 y) (le y one64) (subst T (in_room_lem y) (holds _ a))).1 (holds _ b)))
     (from_first y ys p.0 p.1))
@@ -95,14 +93,11 @@ pub goes_next : (g : Bool) (x y z : Float) (l ys : List Float) → l ≡ y ∷ y
 goes_next g x y z l ys e f = rw (e, f) (and_assoc g (lt x y) (goes_on y ys) ∙ ap (λ (b : Bool). g && b) (sym (and_assoc (lt x y) (chain_from lt y ys) (le (last_of y ys) one64))))
 
 -- ---- doubles by their patterns
-all_fit : (bs : List ℕ) → T (all_of (fits binary64) (map double bs))
+pub all_fit : (bs : List ℕ) → T (list_all (fits binary64) (map double bs))
 all_fit [] = tt
-all_fit (b ∷ bs) = yes_and (fits binary64 (double b)) (all_of (fits binary64) (map double bs)) (of_bits-fits binary64 b) (all_fit bs)
+all_fit (b ∷ bs) = yes_and (fits binary64 (double b)) (list_all (fits binary64) (map double bs)) (of_bits-fits binary64 b) (all_fit bs)
 
-pub slice_fits : (a b : ℕ) (bs : List ℕ) → T (all_of (fits binary64) (slice a b (map double bs)))
-slice_fits a b bs = all_dropped (fits binary64) a (take b (map double bs)) (all_taken (fits binary64) b (map double bs) (all_fit bs))
-
-pub goes_first : (x z : Float) (l ys : List Float) → T (all_of (fits binary64) l) → l ≡ x ∷ ys → z ≡ x → (le minus_one64 z && goes_on z ys) ≡ ordered l
+pub goes_first : (x z : Float) (l ys : List Float) → T (list_all (fits binary64) l) → l ≡ x ∷ ys → z ≡ x → (le minus_one64 z && goes_on z ys) ≡ ordered l
 goes_first x z l ys h e f =
-    let p = and_yes (fits binary64 x) (all_of (fits binary64) ys) (rw e at h) in
+    let p = and_yes (fits binary64 x) (list_all (fits binary64) ys) (rw e at h) in
     rw (e, f) (from_first x ys p.0 p.1)

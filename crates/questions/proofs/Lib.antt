@@ -4,3 +4,4 @@ pub mod Indexed
 pub mod ActiveInKey
 pub mod KeyQuestions
 pub mod Ascending
+pub mod Answered

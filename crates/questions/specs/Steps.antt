@@ -1,2 +1,3 @@
+pub mod KeyCounts
 pub mod KeyNames
 pub mod KeyOrder

@@ -1,91 +1,57 @@
 // Tests of the parts of a key.
-ghost use Rattle.std.specs.Prelude.{◌≡◌, ◌+◌, ◌≤◌, eqb, length};
-ghost use Rattle.std.proofs.Math.Seq.{slice};
-ghost use Rattle.lists.specs.Lists.{any_of, total};
-ghost use Rattle.layout.specs.Steps.Counts.{counted_to};
-ghost use Rattle.questions.specs.Steps.KeyNames.{all_active_names, IndexOf};
-ghost use Rattle.questions.specs.Steps.KeyOrder.{all_ordered, runs_ordered};
+ghost use Rattle.std.specs.Prelude.{◌≡◌, ◌==◌, ◌+◌, ◌≤◌, length, slice_range};
+ghost use Rattle.lists.specs.Lists.{total};
+ghost use Rattle.std.specs.List.{list_any};
+ghost use Rattle.questions.specs.Steps.KeyCounts.{counted};
+ghost use Rattle.questions.specs.Steps.KeyOrder.{runs_ordered, all_ordered};
 
-use crate::index::index_by;
 use crate::numbers::is_ordered;
+use keys::{LAYER_COUNTS, ROW_COUNTS, USED, XS, YS, ZS};
 
-// Whether one of n channels is active.
-pub(crate) fn any_active(key: &[u64], n: usize) -> bool
-    requires { (length key.now ≡ 156) × (n ≤ 24) }
-    ensures { result ≡ any_of (eqb 1) (slice 24 (24 + n) key.now) }
+// Whether one of the channels with these flags is active.
+pub(crate) fn any_active(flags: &[u64]) -> bool
+    ensures { result ≡ list_any (λ f. f == 1) flags.now }
 {
-    let mut i = 0usize;
-    while i < n {
-        if key[24 + i] == 1 {
-            return true;
-        }
-        i += 1;
-    }
-    false
+    flags.iter().any(|f| *f == 1)
 }
 
-// The sum of n counts from place `at` on; 25 where one is not from 1 to `most`.
-pub(crate) fn counted(key: &[u64], at: usize, n: usize, most: u64) -> usize
-    requires { (at + n ≤ length key.now) × (n ≤ 24) × (most ≤ 24) }
-    ensures { result ≡ counted_to most (slice at (at + n) key.now) }
+// The sum of counts that are from 1 to `most` each and at most 24 together.
+pub(crate) fn counted(counts: &[u64], most: u64) -> Option<usize>
+    requires { (length counts.now ≤ 24) × (most ≤ 24) }
+    ensures { result ≡ counted most counts.now }
 {
-    let mut total = 0usize;
-    let mut i = 0usize;
-    while i < n {
-        let c = key[at + i];
-        if (c < 1) | (most < c) {
-            return 25;
+    let mut total = 0;
+    for c in counts {
+        if (*c < 1) | (most < *c) {
+            return None;
         }
-        total += c as usize;
-        i += 1;
+        total += *c as usize;
     }
-    total
+    (total <= 24).then_some(total)
 }
 
-// Whether each of n runs of doubles, one behind the other from `from` on, is ordered; their lengths
-// stand in the key from `at` on.
-fn runs_ordered(key: &[u64], from: usize, at: usize, n: usize) -> bool
-    requires { (at + n ≤ length key.now) × (from + total (slice at (at + n) key.now) ≤ length key.now) }
-    ensures { result ≡ runs_ordered key.now from at n }
+// Whether each of the runs of doubles with these lengths, one behind the other, is ordered.
+fn runs_ordered(mut runs: &[u64], lengths: &[u64]) -> bool
+    requires { total lengths.now ≤ length runs.now }
+    ensures { result ≡ runs_ordered runs.now lengths.now }
 {
     let mut ok = true;
-    let mut a = from;
-    let mut i = 0usize;
-    while i < n {
-        let b = a + (key[at + i] as usize);
-        ok = ok & is_ordered(key, a, b);
-        a = b;
-        i += 1;
+    for n in lengths {
+        let (run, rest) = runs.split_at(*n as usize);
+        ok = ok & is_ordered(run);
+        runs = rest;
     }
     ok
 }
 
 // Whether z over layers, y within a layer and x within a row are ordered.
-pub(crate) fn all_ordered(key: &[u64], depth: usize, rows: usize) -> bool
-    requires key_len { (length key.now ≡ 156) × (depth ≤ 4) × (rows ≤ 24) }
-    requires key_bound { (total (slice 48 (48 + depth) key.now) ≤ 24) × (total (slice 52 (52 + rows) key.now) ≤ 24) }
+pub(crate) fn all_ordered(key: &[u64; 156], depth: usize, rows: usize) -> bool
+    requires counts { (depth ≤ 4) × (rows ≤ 24) }
+    requires totals { (total (slice_range key.now 48 (48 + depth)) ≤ 24)
+        × (total (slice_range key.now 52 (52 + rows)) ≤ 24) }
     ensures { result ≡ all_ordered key.now depth rows }
 {
-    is_ordered(key, 100, 100 + depth)
-        & runs_ordered(key, 104, 48, depth)
-        & runs_ordered(key, 128, 52, rows)
-}
-
-// Whether each of m anchors names an active channel of the first n.
-pub(crate) fn anchors_named(index: &[u8; 167], key: &[u64], n: usize, m: usize) -> bool
-    requires { (length key.now ≡ 156) × (n ≤ 24) × (m ≤ 24) × IndexOf key.now n index.now }
-    ensures { result ≡ all_active_names key.now n (slice 76 (76 + m) key.now) }
-{
-    let mut i = 0usize;
-    while i < m {
-        let p = index_by(index, key, n, key[76 + i]);
-        if p == n {
-            return false;
-        }
-        if key[24 + p] != 1 {
-            return false;
-        }
-        i += 1;
-    }
-    true
+    is_ordered(&key[ZS..ZS + depth])
+        & runs_ordered(&key[YS..XS], &key[LAYER_COUNTS..LAYER_COUNTS + depth])
+        & runs_ordered(&key[XS..USED], &key[ROW_COUNTS..ROW_COUNTS + rows])
 }

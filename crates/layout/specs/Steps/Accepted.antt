@@ -1,7 +1,8 @@
 -- What a layout with six answers "yes" guarantees, in the words of the code that walks its flat lists. Definitions only.
 use Rattle.std.specs.Prelude.{ℕ, suc, ◌≤◌, ◌<◌, ◌≡◌, map, T, length, get_or, take}
 use Rattle.std.proofs.Math.Seq.{slice}
-use Rattle.lists.specs.Lists.{all_of, elem, all_distinct, total}
+use Rattle.lists.specs.Lists.{elem, all_distinct, total}
+use Rattle.std.specs.List.{list_all}
 use Rattle.layout.specs.declared.Layout.{Layout}
 use Rattle.layout.specs.Name.{valid_name}
 use Rattle.layout.specs.Channels.{channels_of, channel_name, active_names, active_count}
@@ -31,11 +32,11 @@ pub record Accepted (l : Layout) : Type 0 where
   pub anchor_start : (i : ℕ) → i ≤ length (used_rows l) → get_or (anchor_starts l) i 0 ≡ total (map row_count (take i l.rows))
   -- coordinates are finite, from -1 to 1 and strictly ascending: of the topology, and of the flat lists between the starts
   pub z_ordered : T (ordered (map topology_z (topology_of l)))
-  pub layers_ordered : T (all_of ordered_layer (topology_of l))
+  pub layers_ordered : T (list_all ordered_layer (topology_of l))
   pub zs_ordered : T (ordered (take l.depth (map layer_z l.layers)))
   pub ys_ordered : (i : ℕ) → i < l.depth → T (ordered (slice (get_or (row_starts l) i 0) (get_or (row_starts l) (suc i) 0) (map row_y l.rows)))
   pub xs_ordered : (i : ℕ) → i < length (used_rows l) → T (ordered (slice (get_or (anchor_starts l) i 0) (get_or (anchor_starts l) (suc i) 0) (map anchor_x l.anchors)))
   -- each anchor names an active channel; the channels' names are valid, and none stands twice
   pub anchor_active : (i : ℕ) → i < length (used_anchors l) → T (elem (get_or l.anchors i no_anchor).name (active_names l))
-  pub channels_valid : T (all_of valid_name (map channel_name (channels_of l)))
+  pub channels_valid : T (list_all valid_name (map channel_name (channels_of l)))
   pub channels_distinct : T (all_distinct (map channel_name (channels_of l)))

@@ -1,30 +1,28 @@
--- The first i entries are written.
-use mathlib.Core.Path.{refl, sym, ap, ◌∙◌}
-use native.Mathlib.Omega.{arith}
+-- The array's map is the list's, and the names are those of the active channels.
+use Prim.Native.Nat.{ℕ}
+use mathlib.Core.Path.{◌≡◌}
+use mathlib.Core.List.{List}
 use borrow.Author.Rules.{rules}
-use lib.ListN.{length, get_or, replicate, length-map, get_or-map}
-use Rattle.lists.specs.Lists.{index_of}
+use lib.Dec.{eqb}
+use lib.ListN.{length, replicate}
+use Rattle.std.specs.Prelude.{unwrap_or}
+use Rattle.std.specs.List.{position}
+use Rattle.lists.proofs.Arrays.{map_by}
 use Rattle.lists.proofs.Loops.{long}
-use Rattle.lists.proofs.Fill.{fill_none, fill_more, fill_done}
-use Rattle.layout.specs.Steps.Starts.{anchor_index, no_anchor}
-use Rattle.layout.proofs.ActiveNames.{names_length, names_front}
+use Rattle.lists.proofs.Places.{index_of_position}
+use Rattle.lists.specs.Lists.{index_of}
+use Rattle.layout.specs.Channels.{active_names}
+use Rattle.layout.specs.Steps.Starts.{anchor_index}
+use Rattle.layout.proofs.ActiveNames.{names_front}
 use Rattle.walk.proofs.anchor_indices.Goals as goal
 
-pub loop-i-init : goal.loop-i-init
-loop-i-init c = fill_none _ _ _ (rw length-map (search (rules, long))) (search rules)
-
-pub slice_bounds-index_of-end : goal.slice_bounds-index_of-end
-slice_bounds-index_of-end c =
-    sym (ap length c.active_names-n.ensures.out_after ∙ names_length c.args.l (replicate 24 0) (search (rules, long)) refl)
-
--- ---- the loop
-pub loop-i-preserved : goal.loop-i-preserved
-loop-i-preserved c =
-    let v = c.loop-i in
-    let l = c.args.l in
-    let name = (get_or l.anchors v.i no_anchor).name in
-    let place = c.index_of.ensures ∙ ap (index_of name) (names_front l _ (replicate 24 0) _ c.active_names-n.ensures.value c.active_names-n.ensures.out_after) in
-    fill_more 24 _ v.places v.i (anchor_index l no_anchor) _ v.invariant c.loop-i-test.true (place ∙ sym (get_or-map (anchor_index l) l.anchors v.i no_anchor))
+-- the place of a name, or the number of names
+place : (names front : List ℕ) (n w : ℕ) → front ≡ names → n ≡ length names → unwrap_or (position (λ (x : ℕ). eqb x w) front) n ≡ index_of w names
+place names front n w e k = rw (e, k) (index_of_position w names)
 
 pub returns : goal.returns
-returns c = fill_done _ _ _ _ c.loop-i.invariant (omega arith)
+returns c =
+    let l = c.args.l in
+    let front = names_front l _ (replicate 24 0) _ c.active_names-n.ensures.value c.active_names-n.ensures.out_after in
+    let named = λ (w : ℕ). place (active_names l) _ _ w front c.active_names-n.ensures.value in
+    map_by (anchor_index l) (λ q x y e. search (rules, named)) _ _ _ (search (rules, long)) c.map.ensures.items

@@ -1,20 +1,9 @@
--- The first i entries are written.
-use native.Mathlib.Omega.{arith}
+-- The array's map is the list's.
 use borrow.Author.Rules.{rules}
-use lib.ListN.{length-map}
+use Rattle.lists.proofs.Arrays.{map_of}
 use Rattle.lists.proofs.Loops.{long}
-use Rattle.lists.proofs.Fill.{fill_none, fill_map, fill_done}
 use Rattle.layout.specs.Topology.{anchor_name}
-use Rattle.layout.specs.Steps.Starts.{no_anchor}
 use Rattle.walk.proofs.anchor_names.Goals as goal
 
-pub loop-i-init : goal.loop-i-init
-loop-i-init c = fill_none _ _ _ (rw length-map (search (rules, long))) (search rules)
-
-pub loop-i-preserved : goal.loop-i-preserved
-loop-i-preserved c =
-    let v = c.loop-i in
-    fill_map anchor_name 24 c.args.l.anchors v.names v.i no_anchor v.invariant (omega arith)
-
 pub returns : goal.returns
-returns c = fill_done _ _ _ _ c.loop-i.invariant (omega arith)
+returns c = map_of anchor_name (λ p q x y e. search rules) _ _ _ (search (rules, long)) c.map.ensures.items

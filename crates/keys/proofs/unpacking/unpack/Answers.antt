@@ -4,4 +4,4 @@ use Rattle.keys.proofs.unpacking.unpack.Goals as goal
 
 pub returns : goal.returns
 unfolding layout_in
-returns c = rw (c.anchors_in.ensures, c.rows_in.ensures, c.layers_in.ensures, c.channels_in.ensures)
+returns c = rw (c.entries_in-4.ensures, c.entries_in-3.ensures, c.entries_in-2.ensures, c.entries_in.ensures)

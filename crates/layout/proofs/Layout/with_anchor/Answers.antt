@@ -44,7 +44,7 @@ pub bounds-l-row : goal.bounds-l-row
 bounds-l-row c = omega (arith, row_bounds c.before)
 
 pub offset_bounds-l-row-2 : goal.offset_bounds-l-row-2
-offset_bounds-l-row-2 c = omega (arith, row_bounds c.before.before.before)
+offset_bounds-l-row-2 c = omega (arith, row_bounds c.before.before)
 
 pub bounds-l-row-2 : goal.bounds-l-row-2
-bounds-l-row-2 c = omega (arith, row_bounds c.before.before.before)
+bounds-l-row-2 c = omega (arith, row_bounds c.before.before)

@@ -18,8 +18,8 @@ returns-else-at-lt24 c =
     let a = c.args in
     row_past a.self (search (rules, long)) c.if-depth.false a.y _ _ c.row_total-at.ensures c.one_more.ensures c.if-at-lt24.false
 
-pub overflow_sub-last : goal.overflow_sub-last
-overflow_sub-last c = omega (arith, (layer_bounds c.args.self.depth c.if-depth.false))
+pub overflow_sub-l : goal.overflow_sub-l
+overflow_sub-l c = omega (arith, (layer_bounds c.args.self.depth c.if-depth.false))
 
 pub offset_bounds-l-depth : goal.offset_bounds-l-depth
 offset_bounds-l-depth c = omega (arith, (layer_bounds c.args.self.depth c.if-depth.false))

@@ -1,23 +1,11 @@
--- The first i + 1 starts are written, and s is the last of them.
-use mathlib.Core.Path.{sym}
-use native.Mathlib.Omega.{arith}
+-- The counts are those of the rows.
+use mathlib.Core.Path.{ap, ◌∙◌}
 use borrow.Author.Rules.{rules}
-use lib.ListN.{length-map, get_or-map}
+use Rattle.lists.proofs.Arrays.{map_of}
 use Rattle.lists.proofs.Loops.{long}
-use Rattle.lists.proofs.Fill.{fill_done}
 use Rattle.layout.specs.Topology.{row_count}
-use Rattle.layout.specs.Steps.Starts.{no_row}
-use Rattle.layout.proofs.StartsFrom.{start_none, start_more}
+use Rattle.layout.specs.Steps.Starts.{starts_from}
 use Rattle.layout.proofs.starts.anchor_starts.Goals as goal
 
-pub loop-i-init : goal.loop-i-init
-loop-i-init c = start_none _ _ c.args.out.now (rw length-map (search (rules, long))) (search rules)
-
-pub loop-i-preserved : goal.loop-i-preserved
-loop-i-preserved c =
-    let v = c.loop-i in
-    let parts = c.args.l.rows in
-    start_more _ _ _ v.s v.i _ _ v.invariant c.loop-i-test.true (sym (get_or-map row_count parts v.i no_row)) c.next_start-s.ensures
-
 pub returns : goal.returns
-returns c = fill_done _ _ _ _ c.loop-i.invariant.written (omega arith)
+returns c = c.starts_from.ensures ∙ ap (starts_from 0) (map_of row_count (λ p q x y e. search rules) _ _ _ (search (rules, long)) c.map.ensures.items)

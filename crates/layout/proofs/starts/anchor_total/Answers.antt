@@ -22,8 +22,8 @@ returns c =
     let l = c.args.l in
     rw (c.anchor_starts.ensures, rows_are c) (starts_used row_count 24 (total (map layer_count (used_layers l))) l.rows l.anchors (search (rules, long)) (search (rules, long)))
 
-pub offset_bounds-starts-row_total : goal.offset_bounds-starts-row_total
-offset_bounds-starts-row_total c = omega (arith, rows_are c)
+pub bounds-anchor_starts-row_total : goal.bounds-anchor_starts-row_total
+bounds-anchor_starts-row_total c = omega (arith, rows_are c)
 
-pub bounds-starts-row_total : goal.bounds-starts-row_total
-bounds-starts-row_total c = omega (arith, rows_are c)
+pub offset_bounds-anchor_starts-row_total : goal.offset_bounds-anchor_starts-row_total
+offset_bounds-anchor_starts-row_total c = omega (arith, rows_are c)

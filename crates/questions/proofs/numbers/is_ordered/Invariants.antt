@@ -1,16 +1,11 @@
-use Prim.Native.Nat.{◌≤◌, ◌-◌}
 use mathlib.Core.Path.{◌≡◌}
 use mathlib.Core.Bool.{◌&&◌}
 use mathlib.Core.List.{map}
-use lib.ListN.{length}
-use lib.Seq.{slice}
+use lib.ListN.{drop}
 use Rattle.layout.specs.Questions.{ordered}
 use Rattle.keys.specs.InKey.{double}
 use Rattle.questions.proofs.Ascending.{goes_on}
 use Rattle.questions.proofs.numbers.is_ordered.Given as goal
 
-abbrev pub invariant-loop-i : goal.invariant-loop-i
-invariant-loop-i l = (l.i ≤ l.b) × (l.b ≤ length l.v) × ((l.good && goes_on l.last (slice l.i l.b (map double l.v))) ≡ ordered (slice l.a l.b (map double l.v)))
-
-abbrev pub decreases-loop-i : goal.decreases-loop-i
-decreases-loop-i l = l.b - l.i
+abbrev pub invariant-loop-w : goal.invariant-loop-w
+invariant-loop-w l = (l.good && goes_on l.last (map double (drop l.w-index l.rest))) ≡ ordered (map double l.v)

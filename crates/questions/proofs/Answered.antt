@@ -1,0 +1,102 @@
+-- What is answered of a key, each test after a "yes" to those before it.
+use Prim.Native.Nat.{ℕ, ◌+◌, ◌≤◌}
+use mathlib.Core.Path.{◌≡◌, sym, ap, ◌∙◌}
+use mathlib.Core.Bool.{true, false, ◌||◌}
+use mathlib.Core.List.{List}
+use borrow.Author.Tests.{not-true, not-false}
+use lib.Dec.{eqb, ltb}
+use lib.ListN.{length, take, get_or}
+use Rattle.std.specs.Prelude.{Result, Some, None, slice_range}
+use Rattle.std.specs.List.{list_all, list_any}
+use Rattle.lists.specs.Lists.{all_distinct, total}
+use Rattle.layout.specs.declared.refusal.Refusal.{Refusal}
+use Rattle.layout.specs.Name.{valid_name}
+use Rattle.layout.specs.Questions.{from_to, first_no, layout_questions, question1, question2, question3, question4, question5}
+use Rattle.layout.specs.Refusals.{answer_by}
+use Rattle.layout.proofs.QuestionsCounted.{both, outside}
+use Rattle.layout.proofs.QuestionsNamed.{question1_not}
+use Rattle.layout.proofs.QuestionsFirst.{first_1, first_2, first_3, first_4, first_5, first_6, first_none}
+use Rattle.keys.specs.InKey.{layout_in}
+use Rattle.keys.proofs.InKey.{used_is, depth_is}
+use Rattle.questions.specs.Steps.KeyCounts.{counted}
+use Rattle.questions.specs.Steps.KeyNames.{good_names, all_active_names}
+use Rattle.questions.specs.Steps.KeyOrder.{all_ordered}
+use Rattle.questions.proofs.KeyQuestions.{question1_by, question3_by, rows_no, anchors_no, question4_yes, totals, question5_by, question6_by}
+
+-- the answer by a number
+abbrev pub answer : ℕ → Result (Unit {0}) Refusal
+answer n = answer_by n tt
+
+module _ (key : List ℕ) (long : length key ≡ 156) where
+  abbrev used : ℕ
+  used = get_or key 152 0
+
+  abbrev depth : ℕ
+  depth = get_or key 153 0
+
+  abbrev Answers : ℕ → Type 0
+  Answers n = answer n ≡ answer (first_no (layout_questions (layout_in key)))
+
+  says : (n : ℕ) → n ≡ first_no (layout_questions (layout_in key)) → Answers n
+  says n e = rw e
+
+  pub channels_out : (ltb used 1 || ltb 24 used) ≡ true → Answers 1
+  channels_out e = says _ (first_1 _ (sym (question1_not _ (ap (from_to 1 24) (used_is key long) ∙ not-true _ (sym (outside 1 24 used) ∙ e)))))
+
+  module _ (channels_in : (ltb used 1 || ltb 24 used) ≡ false) where
+    sizes : from_to 1 24 used ≡ true
+    sizes = not-false _ (sym (outside 1 24 used) ∙ channels_in)
+
+    pub names_bad : good_names (take used key) ≡ false → Answers 1
+    names_bad e = says _ (first_1 _ (sym (question1_by key long sizes) ∙ e))
+
+    module _ (names : good_names (take used key) ≡ true) where
+      q1 : question1 (layout_in key) ≡ true
+      q1 = sym (question1_by key long sizes) ∙ names
+
+      pub layers_out : (ltb depth 1 || ltb 4 depth) ≡ true → Answers 2
+      layers_out e = says _ (first_2 _ q1 (ap (from_to 1 4) (depth_is key long) ∙ not-true _ (sym (outside 1 4 depth) ∙ e)))
+
+      module _ (layers_in : (ltb depth 1 || ltb 4 depth) ≡ false) where
+        depths : from_to 1 4 depth ≡ true
+        depths = not-false _ (sym (outside 1 4 depth) ∙ layers_in)
+
+        q2 : question2 (layout_in key) ≡ true
+        q2 = ap (from_to 1 4) (depth_is key long) ∙ depths
+
+        pub none_active : list_any (λ (f : ℕ). eqb f 1) (slice_range key 24 (24 + used)) ≡ false → Answers 3
+        none_active e = says _ (first_3 _ q1 q2 (sym (question3_by key long sizes) ∙ e))
+
+        module _ (some : list_any (λ (f : ℕ). eqb f 1) (slice_range key 24 (24 + used)) ≡ true) where
+          q3 : question3 (layout_in key) ≡ true
+          q3 = sym (question3_by key long sizes) ∙ some
+
+          pub rows_out : counted 6 (slice_range key 48 (48 + depth)) ≡ None → Answers 4
+          rows_out e = says _ (first_4 _ q1 q2 q3 (rows_no key long sizes depths e))
+
+          module _ (rows : ℕ) (r : counted 6 (slice_range key 48 (48 + depth)) ≡ Some rows) where
+            pub anchors_out : counted 24 (slice_range key 52 (52 + rows)) ≡ None → Answers 4
+            anchors_out e = says _ (first_4 _ q1 q2 q3 (anchors_no key long sizes depths rows r e))
+
+            module _ (anchors : ℕ) (a : counted 24 (slice_range key 52 (52 + rows)) ≡ Some anchors) where
+              q4 : question4 (layout_in key) ≡ true
+              q4 = question4_yes key long sizes depths rows r anchors a
+
+              pub few : (total (slice_range key 48 (48 + depth)) ≤ 24) × (total (slice_range key 52 (52 + rows)) ≤ 24)
+              few = totals key long sizes depths rows r anchors a
+
+              pub not_ordered : all_ordered key depth rows ≡ false → Answers 5
+              not_ordered e = says _ (first_5 _ q1 q2 q3 q4 (sym (question5_by key long sizes depths rows r anchors a) ∙ e))
+
+              module _ (order : all_ordered key depth rows ≡ true) where
+                q5 : question5 (layout_in key) ≡ true
+                q5 = sym (question5_by key long sizes depths rows r anchors a) ∙ order
+
+                distinct : all_distinct (take used key) ≡ true
+                distinct = (both (list_all valid_name (take used key)) (all_distinct (take used key)) names).1
+
+                pub not_active : all_active_names (take used key) (slice_range key 24 (24 + used)) (slice_range key 76 (76 + anchors)) ≡ false → Answers 6
+                not_active e = says _ (first_6 _ q1 q2 q3 q4 q5 (sym (question6_by key long sizes depths rows r anchors a distinct) ∙ e))
+
+                pub accepted : all_active_names (take used key) (slice_range key 24 (24 + used)) (slice_range key 76 (76 + anchors)) ≡ true → Answers 0
+                accepted e = says _ (first_none _ q1 q2 q3 q4 q5 (sym (question6_by key long sizes depths rows r anchors a distinct) ∙ e))
