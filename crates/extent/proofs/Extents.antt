@@ -7,14 +7,9 @@ use lib.Ieee.{Float, binary64, round, le, fits}
 use lib.Ieee.Fits.{cond-fits, add-fits, and_l, and_r}
 use Rattle.doubles.specs.Arithmetic.{zero64, one64}
 use Rattle.doubles.specs.Range.{clamp_to}
-use Rattle.extent.specs.Extent.{Knot, first_knot, later_knots, radius_between, radius_from, radius_of}
+use Rattle.extent.specs.declared.radius.Knot.{Knot}
+use Rattle.extent.specs.Extent.{first_knot, later_knots, radius_between, radius_from, radius_of}
 use Rattle.extent.proofs.radius.Transfer.{by_knots, clamped}
-
--- ---- components
-
--- ---- means
-
--- ---- radii
 
 abbrev radii_fit : List Knot → Bool
 radii_fit [] = true

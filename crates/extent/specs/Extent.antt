@@ -1,5 +1,5 @@
 -- Reading an extent: document 01, 'Extent'. Definitions only.
-use Rattle.std.specs.Prelude.{ℕ, ◌+◌, ◌*◌, ◌/◌, min, Bool, ◌&&◌, cond, List, [], ◌∷◌, eqb, pos, Float, get_or}
+use Rattle.std.specs.Prelude.{ℕ, ◌+◌, ◌*◌, ◌/◌, min, Bool, ◌&&◌, cond, List, [], ◌∷◌, pos, Float, get_or, Result}
 use Rattle.std.specs.Float.Ieee.{le}
 use Rattle.std.specs.Float.Ieee.Nearest.{closest}
 use Rattle.std.specs.Float.Ieee.Positive.{num, den}
@@ -7,9 +7,11 @@ use Rattle.std.specs.Float.Ieee.Scale.{finite}
 use Rattle.doubles.specs.Arithmetic.{◌⊕◌, ◌⊖◌, ◌⊗◌, ◌⊘◌, dec, from_int, zero64, one64}
 use Rattle.doubles.specs.Range.{is_between, clamp_to}
 use Rattle.layout.specs.Questions.{Question, first_no}
+use Rattle.layout.specs.declared.refusal.Refusal.{Refusal}
+use Rattle.layout.specs.Refusals.{answer_by}
 use Rattle.extent.specs.declared.Extent.{Extent}
 use Rattle.extent.specs.declared.Reading.{Reading}
-use Rattle.extent.specs.declared.Reading.TheVariants.{Refused, Read}
+use Rattle.extent.specs.declared.radius.Knot.{Knot}
 
 -- what each component is to be: finite and from 0 to 1
 abbrev pub component : Float → Bool
@@ -44,10 +46,6 @@ abbrev pub mean_of : Extent → ℕ
 mean_of e = (quantised e.x + quantised e.y + quantised e.z) / 3
 
 -- ---- the radius: by five knots
-pub record Knot : Type 0 where
-  pub scalar : Float
-  pub radius : Float
-
 abbrev pub knot : Float → Float → Knot
 knot s r = record { scalar = s; radius = r }
 
@@ -78,8 +76,9 @@ radius_of scalar = let s = clamp_to zero64 one64 scalar in cond (le s first_knot
 abbrev pub mean_radius : ℕ → Float
 mean_radius m = radius_of (from_int (pos m) ⊘ from_int (pos 32768))
 
--- ---- what reading an extent answers: the number of the first question with a no, or mean and radius
-abbrev pub read_of : Extent → Reading
-read_of e =
-    let q = first_no (extent_questions e) in
-    cond (eqb q 0) (Read (mean_of e) (mean_radius (mean_of e))) (Refused q)
+-- ---- what reading an extent answers: the first question with a no, or mean and radius
+abbrev pub reading_of : Extent → Reading
+reading_of e = record { mean = mean_of e; radius = mean_radius (mean_of e) }
+
+abbrev pub read_of : Extent → Result Reading Refusal
+read_of e = answer_by (first_no (extent_questions e)) (reading_of e)

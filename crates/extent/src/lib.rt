@@ -15,10 +15,9 @@ pub struct Extent {
     pub z: f64,
 }
 
-// What reading an extent answers: the number of the question that refuses it, or its mean and its
-// radius.
+// What an extent is read as: the mean of its components, and the radius that follows from the mean.
 #[derive(Clone, Copy)]
-pub enum Reading {
-    Refused(u64),
-    Read(u64, f64),
+pub struct Reading {
+    pub mean: u64,
+    pub radius: f64,
 }

@@ -1,17 +1,44 @@
 // Reading an extent: its mean and its radius.
-ghost use Rattle.std.specs.Prelude.{◌≡◌, ◌+◌, ◌<◌};
+ghost use Rattle.std.specs.Prelude.{◌≡◌, if◌then◌else◌};
 ghost use Rattle.layout.specs.Questions.{first_no};
-ghost use Rattle.extent.specs.Extent.{quantised, mean_of, knot_at, radius_between, radius_of, extent_questions, read_of};
+ghost use Rattle.layout.specs.Refusals.{answer_by};
+ghost use Rattle.extent.specs.Extent.{component, quantised, mean_of, radius_between, radius_of, extent_questions, read_of};
 
 use crate::{Extent, Reading};
-use doubles::{SHIFT, is_between};
+use doubles::{SHIFT, clamp, is_between};
+use layout::Refusal;
 
 const Q: f64 = 32768.0;
 
-// The knots of the radius: at E[i] it is S[i].
-const E: [f64; 5] = [0.0, 0.2, 0.5, 0.75, 1.0];
+// What the radius is at a scalar.
+#[derive(Clone, Copy)]
+struct Knot {
+    scalar: f64,
+    radius: f64,
+}
 
-const S: [f64; 5] = [0.0, 0.075, 0.25, 0.45, 0.7];
+const KNOTS: [Knot; 5] = [
+    Knot {
+        scalar: 0.0,
+        radius: 0.0,
+    },
+    Knot {
+        scalar: 0.2,
+        radius: 0.075,
+    },
+    Knot {
+        scalar: 0.5,
+        radius: 0.25,
+    },
+    Knot {
+        scalar: 0.75,
+        radius: 0.45,
+    },
+    Knot {
+        scalar: 1.0,
+        radius: 0.7,
+    },
+];
 
 // The whole number nearest to 32768 * v, a half going to the even one, at most 32767; 0 for a v that is not
 // from 0 to 1. The product is exact, and its sum with SHIFT is rounded to a whole number, whose lowest 16
@@ -22,40 +49,33 @@ fn quantise(v: f64) -> u64
     if !is_between(0.0, 1.0, v) {
         return 0;
     }
-    let q = f64::to_bits(v * Q + SHIFT) % 65536;
-    if q < 32767 { q } else { 32767 }
+    let q = (v * Q + SHIFT).to_bits() % 65536;
+    q.min(32767)
 }
 
-// The radius between knot i and the next.
-fn between(i: usize, scalar: f64) -> f64
-    requires { i < 4 }
-    ensures { result ≡ radius_between (knot_at i) (knot_at (i + 1)) scalar }
+// The radius between two knots.
+fn between(a: Knot, b: Knot, scalar: f64) -> f64
+    ensures { result ≡ radius_between a b scalar }
 {
-    let t = (scalar - E[i]) / (E[i + 1] - E[i]);
-    S[i] + t * (S[i + 1] - S[i])
+    let t = (scalar - a.scalar) / (b.scalar - a.scalar);
+    a.radius + t * (b.radius - a.radius)
 }
 
 // The five-knot transfer from a scalar to a radius.
 pub fn extent_radius(scalar: f64) -> f64
     ensures { result ≡ radius_of scalar }
 {
-    let s = doubles::clamp(scalar, 0.0, 1.0);
-    if s <= E[0] {
-        return S[0];
+    let s = clamp(scalar, 0.0, 1.0);
+    if s <= KNOTS[0].scalar {
+        return KNOTS[0].radius;
     }
-    if s <= E[1] {
-        return between(0, s);
+    // By index: of an iterator over pairs of knots the proof did not close.
+    for i in 0..4 {
+        if s <= KNOTS[i + 1].scalar {
+            return between(KNOTS[i], KNOTS[i + 1], s);
+        }
     }
-    if s <= E[2] {
-        return between(1, s);
-    }
-    if s <= E[3] {
-        return between(2, s);
-    }
-    if s <= E[4] {
-        return between(3, s);
-    }
-    S[4]
+    KNOTS[4].radius
 }
 
 // The mean of the three components, 0 to 32767.
@@ -65,30 +85,34 @@ fn mean_of(e: Extent) -> u64
     (quantise(e.x) + quantise(e.y) + quantise(e.z)) / 3
 }
 
-// The first of questions 7 (x), 18 (y) and 19 (z) that has a no; 0 where none has.
-fn extent_no(e: Extent) -> u64
-    ensures { result ≡ first_no (extent_questions e) }
+// Whether a component is finite and from 0 to 1, or the refusal of one that is not.
+fn ask(v: f64, no: Refusal) -> Result<(), Refusal>
+    ensures { result ≡ (if component v then Ok tt else Err no) }
 {
-    if !is_between(0.0, 1.0, e.x) {
-        return 7;
+    if is_between(0.0, 1.0, v) {
+        Ok(())
+    } else {
+        Err(no)
     }
-    if !is_between(0.0, 1.0, e.y) {
-        return 18;
-    }
-    if !is_between(0.0, 1.0, e.z) {
-        return 19;
-    }
-    0
 }
 
-// The number of the question that refuses the extent, or its mean and its radius.
-pub fn read_extent(e: Extent) -> Reading
+// The first of questions 7 (x), 18 (y) and 19 (z) that has a no.
+fn extent_no(e: Extent) -> Result<(), Refusal>
+    ensures { result ≡ answer_by (first_no (extent_questions e)) tt }
+{
+    ask(e.x, Refusal::ExtentX)?;
+    ask(e.y, Refusal::ExtentY)?;
+    ask(e.z, Refusal::ExtentZ)
+}
+
+// An extent's mean and its radius, or the first question that refuses it.
+pub fn read_extent(e: Extent) -> Result<Reading, Refusal>
     ensures { result ≡ read_of e }
 {
-    let q = extent_no(e);
-    if q != 0 {
-        return Reading::Refused(q);
-    }
+    extent_no(e)?;
     let mean = mean_of(e);
-    Reading::Read(mean, extent_radius((mean as f64) / Q))
+    Ok(Reading {
+        mean,
+        radius: extent_radius(mean as f64 / Q),
+    })
 }

@@ -11,6 +11,9 @@ use lib.Dec.{leb, ltb, eqb}
 use lib.Ieee.{Float, nan}
 use lib.ListN.{length, get_or, set, length-set}
 use lib.Seq.{ext_get_or, get_or-set_same, get_or-set_other}
+use borrow.Rule.Slice.PartMut.{put_mid}
+use borrow.Author.Rules.{rules}
+use Rattle.std.proofs.lemmas.List.{places}
 use Rattle.field.specs.Patched.{patched_from, patched, within, either}
 
 -- ---- tests
@@ -154,6 +157,28 @@ store_is b F xs =
     at i false e k =
         rw (within_fails b (b + 1) i (λ h l. eqb-false i b e (omega arith))) (get_or-set_other xs b i (F b) nan (eqb-false i b e))
 
+-- a part written, from a on
+pub part_patched : (a n : ℕ) (F : ℕ → Float) (xs ys : List Float) → a + n ≤ length xs → length ys ≡ n → ((i : ℕ) → i < n → get_or ys i nan ≡ F (a + i)) → put_mid a (a + n - a) xs ys ≡ patched (within a (a + n)) F xs
+part_patched a n F xs ys l k h =
+    let e : a + n - a ≡ n = omega arith in
+    is_patched (within a (a + n)) F xs (put_mid a (a + n - a) xs ys) (search (rules, places)) (λ (i : ℕ) (m : i < length xs). low i (ltb i a) refl m)
+  where
+    high : (i : ℕ) (t : Bool) → ltb i (a + n) ≡ t → a ≤ i → i < length xs → get_or (put_mid a (a + n - a) xs ys) i nan ≡ cond (within a (a + n) i) (F i) (get_or xs i nan)
+    high i true e g m =
+        let q : i < a + n = ltb-true i (a + n) e in
+        let d : a + (i - a) ≡ i = omega arith in
+        let p : get_or ys (i - a) nan ≡ F i = rw d at (h (i - a) (omega arith)) in
+        rw (within_holds a (a + n) i g q) (grind (arith, places, p))
+    high i false e g m =
+        let q : a + n ≤ i = ltb-false i (a + n) e in
+        rw (within_fails a (a + n) i (λ _ w. omega arith)) (grind (arith, places))
+
+    low : (i : ℕ) (t : Bool) → ltb i a ≡ t → i < length xs → get_or (put_mid a (a + n - a) xs ys) i nan ≡ cond (within a (a + n) i) (F i) (get_or xs i nan)
+    low i true e m =
+        let q : i < a = ltb-true i a e in
+        rw (within_fails a (a + n) i (λ w _. omega arith)) (grind (arith, places))
+    low i false e m = high i (ltb i (a + n)) refl (ltb-false i a e) m
+
 -- one more store
 pub within_more : (a b : ℕ) (F : ℕ → Float) (xs : List Float) → a ≤ b → set (patched (within a b) F xs) b (F b) ≡ patched (within a (b + 1)) F xs
 within_more a b F xs l =
@@ -176,3 +201,16 @@ pub copy_more : (a k j : ℕ) (g : ℕ → Float) (xs : List Float) (d : Float) 
 copy_more a k j g xs d h l q =
     let e : a + j - a ≡ j = omega arith in
     rw (get_or_written (within a (a + k)) (λ (i : ℕ). g (i - a)) xs (a + j) d (omega arith) (within_holds a (a + k) (a + j) (omega arith) (omega arith)), e, q) (write_more a k g xs)
+
+-- a loop that writes F 0, F 1, ..
+pub set_below : (F : ℕ → Float) (xs : List Float) (k : ℕ) → k < length xs → ((i : ℕ) → i < k → get_or xs i nan ≡ F i) → (i : ℕ) → i < k + 1 → get_or (set xs k (F k)) i nan ≡ F i
+set_below F xs k l h i j = at (eqb i k) refl
+  where
+    at : (t : Bool) → eqb i k ≡ t → get_or (set xs k (F k)) i nan ≡ F i
+    at true e = let q : i ≡ k = eqb-true i k e in rw q (get_or-set_same xs k (F k) nan l)
+    at false e =
+        let n = eqb-false i k e in
+        get_or-set_other xs k i (F k) nan n ∙ h i (below n)
+      where
+        below : (i ≡ k → ⊥) → i < k
+        below n = omega arith

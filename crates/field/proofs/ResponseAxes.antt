@@ -9,7 +9,8 @@ use lib.Ieee.{Float, nan}
 use lib.Ieee.Scale.{finite}
 use lib.ListN.{length, get_or, take, drop, length-map, take-append-drop, get_or-map}
 use lib.Seq.{slice, slice_empty, take-take, drop-append-le, length-take-le, length-slice}
-use Rattle.lists.specs.Lists.{all_of, flatten}
+use Rattle.lists.specs.Lists.{flatten}
+use Rattle.std.specs.List.{list_all}
 use Rattle.lists.proofs.Loops.{slice_more}
 use Rattle.layout.specs.declared.Anchor.{Anchor}
 use Rattle.layout.specs.Topology.{TopologyRow, TopologyLayer, anchor_x}
@@ -112,7 +113,7 @@ module _
     pub row_start_end : (i j : ℕ) → i ≤ j → j ≤ length t → get_or row_starts i 0 ≤ get_or row_starts j 0
     row_start_end i j h k = rising_to_lem row_starts (length t) flat.rows_rise i j h k
 
-    active_part : (a b : ℕ) → b ≤ get_or starts (length (rows_in t)) 0 → T (all_of (active_anchor names) (slice a b anchors))
+    active_part : (a b : ℕ) → b ≤ get_or starts (length (rows_in t)) 0 → T (list_all (active_anchor names) (slice a b anchors))
     active_part a b h = slice_active names anchors (get_or starts (length (rows_in t)) 0) a b flat.within flat.actives h
 
     -- ---- X: the rows are the groups, and each anchor is a part of its own
@@ -149,7 +150,7 @@ module _
             groups_added names anchors ones (map anchor_x anchors) starts (length (rows_in t)) k parts_x are_x u f base (length (rows_in t)) out (le_refl (length (rows_in t)))
             ∙ ap (λ (ws : List Weight). weights_added base names ws out) all_x
 
-        pub named_x : T (all_of (named names) (weights_on X t u))
+        pub named_x : T (list_all (named names) (weights_on X t u))
         named_x =
             rw (← all_x)
             (groups_named names anchors ones (map anchor_x anchors) starts (length (rows_in t)) k parts_x are_x u f
@@ -199,7 +200,7 @@ module _
         added_y base out =
             groups_added names anchors starts ys row_starts (length t) k parts_y are_y u f base (length t) out (le_refl (length t)) ∙ ap (λ (ws : List Weight). weights_added base names ws out) all_y
 
-        pub named_y : T (all_of (named names) (weights_on Y t u))
+        pub named_y : T (list_all (named names) (weights_on Y t u))
         named_y =
             rw (← all_y)
             (groups_named names anchors starts ys row_starts (length t) k parts_y are_y u f
@@ -239,7 +240,7 @@ module _
             ∙ ap (λ (rs : List TopologyRow). flatten (map row_anchors rs)) (flat.layer_cut i l)
             ∙ rows_anchors (b - a) a b (omega arith) (le_trans (row_start_end (i + 1) (length t) (omega arith) (le_refl (length t))) flat.rows_within))
 
-        active_z : (i : ℕ) → i < depth → T (all_of (active_anchor names) (slice (get_or layer_starts (0 + i) 0) (get_or layer_starts (0 + i + 1) 0) anchors))
+        active_z : (i : ℕ) → i < depth → T (list_all (active_anchor names) (slice (get_or layer_starts (0 + i) 0) (get_or layer_starts (0 + i + 1) 0) anchors))
         active_z i h =
             rw (zero-add i, starts-are i (omega arith), starts-are (i + 1) (omega arith))
             (active_part (get_or starts (get_or row_starts i 0) 0) (get_or starts (get_or row_starts (i + 1) 0) 0)
@@ -252,6 +253,6 @@ module _
             ∙ pick_added_lem names anchors layer_starts 0 depth (map layer_anchors t) are_z base (layer_pick (take depth zs) u) out h
             ∙ rw (← zCut)
 
-        pub named_z : (u : Float) → pick_end (layer_pick (take depth zs) u) ≤ depth → T (all_of (named names) (weights_on Z t u))
+        pub named_z : (u : Float) → pick_end (layer_pick (take depth zs) u) ≤ depth → T (list_all (named names) (weights_on Z t u))
         unfolding weights_on
         named_z u h = rw zCut (pick_named names anchors layer_starts 0 depth (map layer_anchors t) are_z (layer_pick (take depth zs) u) h active_z)

@@ -3,10 +3,10 @@ use Prim.Native.Nat.{ℕ, suc, ◌+◌, ◌-◌, ◌*◌, ◌≤◌, ◌<◌, mi
 use mathlib.Core.Path.{◌≡◌, refl, sym, ap, ◌∙◌}
 use mathlib.Core.Bool.{Bool, true, false, not, ◌||◌, cond}
 use mathlib.Core.List.{List, [], ◌∷◌, map}
-use native.Mathlib.Nat.{le_trans, le_refl, le_of_lt, le_of_eq}
+use native.Mathlib.Nat.{le_trans, le_refl, le_of_lt, le_of_eq, zero-add}
 use native.Mathlib.Numerals.{add-one}
 use native.Mathlib.Omega.{arith}
-use lib.Dec.{T, eqb, eqb→eq}
+use lib.Dec.{T, eqb}
 use lib.Ieee.{Float, nan, lt}
 use lib.Ieee.Fits.{and_i, and_l, and_r}
 use lib.Ieee.Scale.{finite}
@@ -14,7 +14,9 @@ use lib.ListN.{length, get_or, take, length-map}
 use lib.Seq.{slice, get_or-take, length-slice, length-take-le}
 use Rattle.doubles.specs.Arithmetic.{minus_one64, one64, zero64}
 use Rattle.doubles.specs.Range.{is_between}
-use Rattle.lists.specs.Lists.{all_of, filtered, elem, all_distinct, total, chain}
+use Rattle.lists.specs.Lists.{elem, all_distinct, total, chain}
+use Rattle.std.specs.List.{list_all, filter, range_with_len}
+use Rattle.std.proofs.lemmas.List.FromFn.{get_or-range_with_len}
 use Rattle.lists.proofs.Takes.{map_take}
 use Rattle.layout.specs.declared.Layout.{Layout}
 use Rattle.layout.specs.Steps.Accepted.{Accepted}
@@ -31,7 +33,7 @@ use Rattle.field.specs.Steps.Flat.{pick_end, response_added, responded, responde
 use Rattle.field.proofs.ResponseRows.{weights_added, place_within, rows_hold}
 use Rattle.field.proofs.ResponseSpread.{all_in}
 use Rattle.field.proofs.ResponseAxes.{Flat, rows_in, no_topology_row, no_topology_layer, slice_take, get_or_mapped, rising_to_lem, added_x, named_x, added_y, named_y, added_z, named_z}
-use Rattle.field.proofs.ResponseSamples.{first, at, sample_finite}
+use Rattle.field.proofs.ResponseSamples.{sample_finite}
 use Rattle.field.proofs.response.Picks.{get_or_slice, layers_pick_end}
 
 -- ---- the active names are distinct, since the channels' names are
@@ -49,29 +51,29 @@ not_map true false h t = absurd (h tt)
 not_map false e h t = tt
 
 module _ {A : Type 0} (f : A → ℕ) (p : A → Bool) where
-  elem_filter : (n : ℕ) (xs : List A) → T (elem n (map f (filtered p xs))) → T (elem n (map f xs))
+  elem_filter : (n : ℕ) (xs : List A) → T (elem n (map f (filter p xs))) → T (elem n (map f xs))
   elem_filter n [] t = t
   elem_filter n (x ∷ xs) t = go (p x) (elem_filter n xs) t
     where
-      go : (b : Bool) → (T (elem n (map f (filtered p xs))) → T (elem n (map f xs))) → T (elem n (map f (cond b (x ∷ filtered p xs) (filtered p xs)))) → T (eqb (f x) n || elem n (map f xs))
-      go true h s = or_map (eqb (f x) n) (elem n (map f (filtered p xs))) (elem n (map f xs)) h s
+      go : (b : Bool) → (T (elem n (map f (filter p xs))) → T (elem n (map f xs))) → T (elem n (map f (cond b (x ∷ filter p xs) (filter p xs)))) → T (eqb (f x) n || elem n (map f xs))
+      go true h s = or_map (eqb (f x) n) (elem n (map f (filter p xs))) (elem n (map f xs)) h s
       go false h s = or_right (eqb (f x) n) (elem n (map f xs)) (h s)
 
-  distinct_filter : (xs : List A) → T (all_distinct (map f xs)) → T (all_distinct (map f (filtered p xs)))
+  distinct_filter : (xs : List A) → T (all_distinct (map f xs)) → T (all_distinct (map f (filter p xs)))
   distinct_filter [] t = t
   distinct_filter (x ∷ xs) t = go (p x) (distinct_filter xs (and_r (not (elem (f x) (map f xs))) (all_distinct (map f xs)) t))
     where
-      go : (b : Bool) → T (all_distinct (map f (filtered p xs))) → T (all_distinct (map f (cond b (x ∷ filtered p xs) (filtered p xs))))
+      go : (b : Bool) → T (all_distinct (map f (filter p xs))) → T (all_distinct (map f (cond b (x ∷ filter p xs) (filter p xs))))
       go true d =
-          and_i (not (elem (f x) (map f (filtered p xs)))) (all_distinct (map f (filtered p xs)))
-          (not_map (elem (f x) (map f (filtered p xs))) (elem (f x) (map f xs)) (elem_filter (f x) xs) (and_l (not (elem (f x) (map f xs))) (all_distinct (map f xs)) t)) d
+          and_i (not (elem (f x) (map f (filter p xs)))) (all_distinct (map f (filter p xs)))
+          (not_map (elem (f x) (map f (filter p xs))) (elem (f x) (map f xs)) (elem_filter (f x) xs) (and_l (not (elem (f x) (map f xs))) (all_distinct (map f xs)) t)) d
       go false d = d
 
 -- ---- ordered coordinates are finite
 pub ordered_finite : (xs : List Float) (i : ℕ) → T (ordered xs) → i < length xs → T (finite (get_or xs i nan))
 ordered_finite xs i t h =
     let x = get_or xs i nan in
-    and_l (finite x) (is_between minus_one64 one64 x) (all_in in_room nan xs i (and_l (all_of in_room xs) (chain lt xs) t) h)
+    and_l (finite x) (is_between minus_one64 one64 x) (all_in in_room nan xs i (and_l (list_all in_room xs) (chain lt xs) t) h)
 
 part_finite : (v : List Float) (a b i : ℕ) → b ≤ length v → T (ordered (slice a b v)) → a ≤ i → i < b → T (finite (get_or v i nan))
 part_finite v a b i long t h k =
@@ -81,11 +83,10 @@ part_finite v a b i long t h k =
 
 -- ---- each anchor as a part of its own
 abbrev pub ones : List ℕ
-ones = 0 ∷ 1 ∷ 2 ∷ 3 ∷ 4 ∷ 5 ∷ 6 ∷ 7 ∷ 8 ∷ 9 ∷ 10 ∷ 11 ∷ 12 ∷ 13 ∷ 14 ∷ 15 ∷ 16 ∷ 17 ∷ 18 ∷ 19 ∷ 20 ∷ 21 ∷ 22 ∷ 23 ∷ 24 ∷ []
+ones = range_with_len 0 25
 
-single : (i : ℕ) → i ≤ 24 → get_or ones i 0 ≡ i
-unfolding first
-single i h = eqb→eq (get_or ones i 0) i (at (λ (j : ℕ). eqb (get_or ones j 0) j) 25 i tt (omega arith))
+pub single : (i : ℕ) → i ≤ 24 → get_or ones i 0 ≡ i
+single i h = get_or-range_with_len 0 25 i 0 (omega arith) ∙ zero-add i
 
 starts_size : (cs : List ℕ) (s : ℕ) → length (starts_from s cs) ≡ suc (length cs)
 starts_size [] s = refl

@@ -13,7 +13,8 @@ use lib.Ieee.Fits.{and_l, and_r}
 use lib.ListN.{length, get_or, set, length-set}
 use lib.Seq.{get_or-set_same, get_or-set_other, append_snoc}
 use Rattle.doubles.specs.Arithmetic.{◌⊕◌, zero64}
-use Rattle.lists.specs.Lists.{all_of, elem, all_distinct, index_of}
+use Rattle.lists.specs.Lists.{elem, all_distinct, index_of}
+use Rattle.std.specs.List.{list_all}
 use Rattle.lists.proofs.Tests.{elem_place}
 use Rattle.field.specs.Responses.{Weight, added_up}
 use Rattle.field.specs.Steps.Flat.{iterate}
@@ -98,20 +99,20 @@ module _ (base : ℕ) (names : List ℕ) (distinct : T (all_distinct names)) (fe
           ∙ r k l
           ∙ sym (added_last zero64 (get_or names k 0) done w ∙ rw (ne_eqb w.name (get_or names k 0) other))
 
-  pub row_steps : (done ws : List Weight) (out : List Float) → T (all_of (named names) ws) → base + 24 ≤ length out → Row done out → Row (done ++ ws) (weights_added base names ws out)
+  pub row_steps : (done ws : List Weight) (out : List Float) → T (list_all (named names) ws) → base + 24 ≤ length out → Row done out → Row (done ++ ws) (weights_added base names ws out)
   row_steps done [] out t h r = rw (append-nil done) r
   row_steps done (w ∷ ws) out t h r =
       rw (← append_snoc done w ws)
-      (row_steps (done ++ (w ∷ [])) ws (weight_added base names w out) (and_r (named names w) (all_of (named names) ws) t) (rw length-set h)
-      (row_step done w out (and_l (named names w) (all_of (named names) ws) t) h r))
+      (row_steps (done ++ (w ∷ [])) ws (weight_added base names w out) (and_r (named names w) (list_all (named names) ws) t) (rw length-set h)
+      (row_step done w out (and_l (named names w) (list_all (named names) ws) t) h r))
 
   -- what lies outside the row stays
-  pub row_frame : (ws : List Weight) (out : List Float) (i : ℕ) → T (all_of (named names) ws) → (i < base) ⊎ (base + 24 ≤ i) → get_or (weights_added base names ws out) i nan ≡ get_or out i nan
+  pub row_frame : (ws : List Weight) (out : List Float) (i : ℕ) → T (list_all (named names) ws) → (i < base) ⊎ (base + 24 ≤ i) → get_or (weights_added base names ws out) i nan ≡ get_or out i nan
   row_frame [] out i t o = refl
   row_frame (w ∷ ws) out i t o =
-      let inside = place_within w.name names (and_l (named names w) (all_of (named names) ws) t) in
+      let inside = place_within w.name names (and_l (named names w) (list_all (named names) ws) t) in
       let other : i ≡ base + index_of w.name names → ⊥ = λ e. ⊎_elim (λ h. omega arith) (λ h. omega arith) o in
-      row_frame ws (weight_added base names w out) i (and_r (named names w) (all_of (named names) ws) t) o
+      row_frame ws (weight_added base names w out) i (and_r (named names w) (list_all (named names) ws) t) o
       ∙ get_or-set_other out (base + index_of w.name names) i (get_or out (base + index_of w.name names) nan ⊕ w.weight) nan other
 
 pub weights_length : (base : ℕ) (names : List ℕ) (ws : List Weight) (out : List Float) → length (weights_added base names ws out) ≡ length out
@@ -129,7 +130,7 @@ module _
     (few : length names ≤ 24)
     (N : ℕ)
     (ws : ℕ → List Weight)
-    (every : (s : ℕ) → s < N → T (all_of (named names) (ws s)))
+    (every : (s : ℕ) → s < N → T (list_all (named names) (ws s)))
     (add : ℕ → List Float → List Float)
     (adds : (s : ℕ) → s < N → (out : List Float) → add s out ≡ weights_added (s * 24) names (ws s) out)
     (out : List Float)

@@ -13,7 +13,8 @@ use lib.Ieee.Scale.{finite}
 use lib.ListN.{length, get_or, take, drop}
 use lib.Seq.{slice, length-slice}
 use Rattle.doubles.specs.Arithmetic.{one64}
-use Rattle.lists.specs.Lists.{all_of, elem, index_of, flatten}
+use Rattle.lists.specs.Lists.{elem, index_of, flatten}
+use Rattle.std.specs.List.{list_all}
 use Rattle.lists.proofs.Takes.{map_take}
 use Rattle.layout.specs.declared.Anchor.{Anchor}
 use Rattle.layout.specs.Steps.Starts.{no_anchor}
@@ -32,14 +33,14 @@ pub map_slice : {A B : Type 0} (f : A → B) (a b : ℕ) (xs : List A) → slice
 map_slice f a b xs = ap (drop a) (sym (map_take f b xs)) ∙ sym (map_drop f a (take b xs))
 
 module _ {A : Type 0} (p : A → Bool) (d : A) where
-  pub all_at : (xs : List A) → ((i : ℕ) → i < length xs → T (p (get_or xs i d))) → T (all_of p xs)
+  pub all_at : (xs : List A) → ((i : ℕ) → i < length xs → T (p (get_or xs i d))) → T (list_all p xs)
   all_at [] h = tt
-  all_at (x ∷ xs) h = and_i (p x) (all_of p xs) (h 0 (omega arith)) (all_at xs (λ i l. h (suc i) (omega arith)))
+  all_at (x ∷ xs) h = and_i (p x) (list_all p xs) (h 0 (omega arith)) (all_at xs (λ i l. h (suc i) (omega arith)))
 
-  pub all_in : (xs : List A) (i : ℕ) → T (all_of p xs) → i < length xs → T (p (get_or xs i d))
+  pub all_in : (xs : List A) (i : ℕ) → T (list_all p xs) → i < length xs → T (p (get_or xs i d))
   all_in [] i t h = absurd (omega arith)
-  all_in (x ∷ xs) zero t h = and_l (p x) (all_of p xs) t
-  all_in (x ∷ xs) (suc i) t h = all_in xs i (and_r (p x) (all_of p xs) t) (omega arith)
+  all_in (x ∷ xs) zero t h = and_l (p x) (list_all p xs) t
+  all_in (x ∷ xs) (suc i) t h = all_in xs i (and_r (p x) (list_all p xs) t) (omega arith)
 
 -- W 0, W 1 up to W (n - 1), one after another
 abbrev pub gathered : {A : Type 0} → (ℕ → List A) → ℕ → List A
@@ -59,7 +60,7 @@ module _ {A : Type 0} where
   gathered_concat f [] d = refl
   gathered_concat f (x ∷ xs) d = ap (λ (r : List A). f x ++ r) (gathered_concat f xs d) ∙ sym (gathered_front (λ (i : ℕ). f (get_or (x ∷ xs) i d)) (length xs))
 
-  pub gathered_all : (p : A → Bool) (W : ℕ → List A) (n : ℕ) → ((i : ℕ) → i < n → T (all_of p (W i))) → T (all_of p (gathered W n))
+  pub gathered_all : (p : A → Bool) (W : ℕ → List A) (n : ℕ) → ((i : ℕ) → i < n → T (list_all p (W i))) → T (list_all p (gathered W n))
   gathered_all p W zero h = tt
   gathered_all p W (suc n) h = all_append p (gathered W n) (W n) (gathered_all p W n (λ i l. h i (omega arith))) (h n (omega arith))
 
@@ -76,12 +77,12 @@ module _ (names : List ℕ) where
   weighted_added base w [] out = refl
   weighted_added base w (a ∷ xs) out = weighted_added base w xs (weight_added base names (record { name = a.name; weight = w }) out)
 
-  weighted_named : (w : Float) (xs : List Anchor) → T (all_of active_anchor xs) → T (all_of (named names) (weighted w xs))
+  weighted_named : (w : Float) (xs : List Anchor) → T (list_all active_anchor xs) → T (list_all (named names) (weighted w xs))
   weighted_named w [] h = tt
-  weighted_named w (a ∷ xs) h = and_i (active_anchor a) (all_of (named names) (weighted w xs)) (and_l (active_anchor a) (all_of active_anchor xs) h) (weighted_named w xs (and_r (active_anchor a) (all_of active_anchor xs) h))
+  weighted_named w (a ∷ xs) h = and_i (active_anchor a) (list_all (named names) (weighted w xs)) (and_l (active_anchor a) (list_all active_anchor xs) h) (weighted_named w xs (and_r (active_anchor a) (list_all active_anchor xs) h))
 
   -- of the first m anchors each names an active channel
-  pub slice_active : (anchors : List Anchor) (m a b : ℕ) → m ≤ length anchors → ((i : ℕ) → i < m → T (active_anchor (get_or anchors i no_anchor))) → b ≤ m → T (all_of active_anchor (slice a b anchors))
+  pub slice_active : (anchors : List Anchor) (m a b : ℕ) → m ≤ length anchors → ((i : ℕ) → i < m → T (active_anchor (get_or anchors i no_anchor))) → b ≤ m → T (list_all active_anchor (slice a b anchors))
   slice_active anchors m a b long h l =
       all_at active_anchor no_anchor (slice a b anchors)
       (λ i k.
@@ -107,7 +108,7 @@ module _ (names : List ℕ) where
           ∙ sym (weights_append base names (weighted v (anchors_at (a + i))) (weighted w (anchors_at (a + i + 1))) out)
           ∙ rw (are i (omega arith), are (i + 1) (omega arith), add_assoc a i 1)
 
-      pub pick_named : (p : Pick) → pick_end p ≤ n → ((i : ℕ) → i < n → T (all_of active_anchor (anchors_at (a + i)))) → T (all_of (named names) (weights_of p ps))
+      pub pick_named : (p : Pick) → pick_end p ≤ n → ((i : ℕ) → i < n → T (list_all active_anchor (anchors_at (a + i)))) → T (list_all (named names) (weights_of p ps))
       pick_named (One i) h t = weighted_named one64 (get_or ps i []) (rw (are i (omega arith)) (t i (omega arith)))
       pick_named (Two i v w) h t =
           all_append (named names) (weighted v (get_or ps i [])) (weighted w (get_or ps (i + 1) []))
@@ -154,5 +155,5 @@ module _ (names : List ℕ) where
             ∙ ap (weights_added base names (group_weights n)) (groups_added base n out (omega arith))
             ∙ sym (weights_append base names (gathered group_weights n) (group_weights n) out)
 
-        pub groups_named : ((g : ℕ) → g < count → (i : ℕ) → i < get_or groups (g + 1) 0 - get_or groups g 0 → T (all_of active_anchor (anchors_at (get_or groups g 0 + i)))) → T (all_of (named names) (gathered group_weights count))
+        pub groups_named : ((g : ℕ) → g < count → (i : ℕ) → i < get_or groups (g + 1) 0 - get_or groups g 0 → T (list_all active_anchor (anchors_at (get_or groups g 0 + i)))) → T (list_all (named names) (gathered group_weights count))
         groups_named h = gathered_all (named names) group_weights count (λ g l. pick_named (get_or groups g 0) (get_or groups (g + 1) 0 - get_or groups g 0) (P g) (are g l) (pick_of (group_of g) u) (group_end g l) (h g l))

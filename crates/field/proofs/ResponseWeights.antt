@@ -20,7 +20,8 @@ use Rattle.doubles.proofs.Differences.{UpTo}
 use Rattle.approximations.proofs.Laws.{sine_range, cosine_range}
 use Rattle.doubles.proofs.Ratio.{ratio_in_room}
 use Rattle.approximations.proofs.Weights.{angle_range, add_from_zero}
-use Rattle.lists.specs.Lists.{all_of, chain, flatten}
+use Rattle.lists.specs.Lists.{chain, flatten}
+use Rattle.std.specs.List.{list_all}
 use Rattle.layout.specs.declared.Anchor.{Anchor}
 use Rattle.layout.specs.Topology.{TopologyRow, TopologyLayer, anchor_x}
 use Rattle.layout.specs.Questions.{in_room, ordered, ordered_row, ordered_layer, topology_y, topology_z}
@@ -60,9 +61,9 @@ two_unit i t u =
     and_i (unit (cosine_of _)) (unit (sine_of _)) (unit_of _ (cosine_range _ r.0 r.1 r.2)) (unit_of _ (sine_range _ r.0 r.1 r.2))
 
 -- ---- the picks
-module _ (xs : List Float) (u : Float) (o : T (ordered xs)) (f : T (all_of (fits binary64) xs)) (fu : T (fits binary64 u)) (tu : T (finite u)) (some : 0 < length xs) where
+module _ (xs : List Float) (u : Float) (o : T (ordered xs)) (f : T (list_all (fits binary64) xs)) (fu : T (fits binary64 u)) (tu : T (finite u)) (some : 0 < length xs) where
   room : (i : ℕ) → i < length xs → T (in_room (get_or xs i nan))
-  room i h = all_in in_room nan xs i (and_l (all_of in_room xs) (chain lt xs) o) h
+  room i h = all_in in_room nan xs i (and_l (list_all in_room xs) (chain lt xs) o) h
 
   at_finite : (i : ℕ) → i < length xs → T (finite (get_or xs i nan))
   at_finite i h = and_l (finite (get_or xs i nan)) (is_between minus_one64 one64 (get_or xs i nan)) (room i h)
@@ -107,7 +108,7 @@ above_zero_plain (inf s) t e = absurd t
 above_zero_plain (fin true m d) t e = absurd (true≢false (sym e))
 above_zero_plain (fin false m d) t e = tt
 
-module _ (zs : List Float) (u : Float) (o : T (ordered zs)) (f : T (all_of (fits binary64) zs)) (fu : T (fits binary64 u)) (lo : T (le zero64 u)) (hi : T (le u one64)) (some : 0 < length zs) where
+module _ (zs : List Float) (u : Float) (o : T (ordered zs)) (f : T (list_all (fits binary64) zs)) (fu : T (fits binary64 u)) (lo : T (le zero64 u)) (hi : T (le u one64)) (some : 0 < length zs) where
   layer_pick_unit : T (unit_pick (layer_pick zs u))
   unfolding layer_pick
   layer_pick_unit = outer (eqb (length zs) 2)
@@ -125,89 +126,89 @@ module _ (zs : List Float) (u : Float) (o : T (ordered zs)) (f : T (all_of (fits
       outer false = pick_unit zs u o f fu t some
 
 -- ---- the weights that a pick spreads
-weighted_unit : (w : Float) (as' : List Anchor) → T (unit w) → T (all_of unit_weight (weighted w as'))
+weighted_unit : (w : Float) (as' : List Anchor) → T (unit w) → T (list_all unit_weight (weighted w as'))
 weighted_unit w [] h = tt
-weighted_unit w (a ∷ as') h = and_i (unit w) (all_of unit_weight (weighted w as')) h (weighted_unit w as' h)
+weighted_unit w (a ∷ as') h = and_i (unit w) (list_all unit_weight (weighted w as')) h (weighted_unit w as' h)
 
-spread_unit : (p : Pick) (parts : List (List Anchor)) → T (unit_pick p) → T (all_of unit_weight (weights_of p parts))
+spread_unit : (p : Pick) (parts : List (List Anchor)) → T (unit_pick p) → T (list_all unit_weight (weights_of p parts))
 spread_unit (One i) parts h = weighted_unit one64 (get_or parts i []) one_unit
 spread_unit (Two i v w) parts h =
     all_append unit_weight (weighted v (get_or parts i [])) (weighted w (get_or parts (i + 1) []))
     (weighted_unit v (get_or parts i []) (and_l (unit v) (unit w) h)) (weighted_unit w (get_or parts (i + 1) []) (and_r (unit v) (unit w) h))
 
-spread_none : (p : Pick) → T (all_of unit_weight (weights_of p []))
+spread_none : (p : Pick) → T (list_all unit_weight (weights_of p []))
 spread_none (One i) = tt
 spread_none (Two i v w) = tt
 
-concat_unit : {A : Type 0} (f : A → List Weight) (q : A → Bool) → ((x : A) → T (q x) → T (all_of unit_weight (f x))) → (xs : List A) → T (all_of q xs) → T (all_of unit_weight (flatten (map f xs)))
+concat_unit : {A : Type 0} (f : A → List Weight) (q : A → Bool) → ((x : A) → T (q x) → T (list_all unit_weight (f x))) → (xs : List A) → T (list_all q xs) → T (list_all unit_weight (flatten (map f xs)))
 concat_unit f q h [] t = tt
 concat_unit f q h (x ∷ xs) t =
-    all_append unit_weight (f x) (flatten (map f xs)) (h x (and_l (q x) (all_of q xs) t)) (concat_unit f q h xs (and_r (q x) (all_of q xs) t))
+    all_append unit_weight (f x) (flatten (map f xs)) (h x (and_l (q x) (list_all q xs) t)) (concat_unit f q h xs (and_r (q x) (list_all q xs) t))
 
 -- ---- the coordinates of a topology are doubles, and ordered
 module _ (u : Float) (fu : T (fits binary64 u)) (lo : T (le zero64 u)) (hi : T (le u one64)) where
   tu : T (finite u)
   tu = from_zero_finite u lo hi
 
-  row_unit : (r : TopologyRow) → T (ordered_row r && fits_row r) → T (all_of unit_weight (row_weights_x u r))
+  row_unit : (r : TopologyRow) → T (ordered_row r && fits_row r) → T (list_all unit_weight (row_weights_x u r))
   unfolding row_weights_x
   row_unit r h = go r.anchors (and_l (ordered_row r) (fits_row r) h) (xs_fit r (and_r (ordered_row r) (fits_row r) h))
     where
-      go : (as' : List Anchor) → T (ordered (map anchor_x as')) → T (all_of (fits binary64) (map anchor_x as')) → T (all_of unit_weight (weights_of (pick_of (map anchor_x as') u) (map alone as')))
+      go : (as' : List Anchor) → T (ordered (map anchor_x as')) → T (list_all (fits binary64) (map anchor_x as')) → T (list_all unit_weight (weights_of (pick_of (map anchor_x as') u) (map alone as')))
       go [] o f = spread_none (pick_of [] u)
       go (a ∷ as') o f = spread_unit (pick_of (map anchor_x (a ∷ as')) u) (map alone (a ∷ as')) (pick_unit (map anchor_x (a ∷ as')) u o f fu tu (omega arith))
 
-  layer_unit_x : (l : TopologyLayer) → T (ordered_layer l && fits_layer l) → T (all_of unit_weight (layer_weights_x u l))
+  layer_unit_x : (l : TopologyLayer) → T (ordered_layer l && fits_layer l) → T (list_all unit_weight (layer_weights_x u l))
   unfolding layer_weights_x
   layer_unit_x l h =
       let o = and_l (ordered_layer l) (fits_layer l) h in
       let f = rows_of_lem l (and_r (ordered_layer l) (fits_layer l) h) in
       concat_unit (row_weights_x u) (λ (r : TopologyRow). ordered_row r && fits_row r) row_unit l.rows
-      (all_and ordered_row fits_row l.rows (and_r (ordered (map topology_y l.rows)) (all_of ordered_row l.rows) o) f)
+      (all_and ordered_row fits_row l.rows (and_r (ordered (map topology_y l.rows)) (list_all ordered_row l.rows) o) f)
 
-  layer_unit_y : (l : TopologyLayer) → T (ordered_layer l && fits_layer l) → T (all_of unit_weight (layer_weights_y u l))
+  layer_unit_y : (l : TopologyLayer) → T (ordered_layer l && fits_layer l) → T (list_all unit_weight (layer_weights_y u l))
   unfolding layer_weights_y
   layer_unit_y l h =
       let o = and_l (ordered_layer l) (fits_layer l) h in
       let f = rows_of_lem l (and_r (ordered_layer l) (fits_layer l) h) in
-      go l.rows (and_l (ordered (map topology_y l.rows)) (all_of ordered_row l.rows) o) (ys_fit l.rows f)
+      go l.rows (and_l (ordered (map topology_y l.rows)) (list_all ordered_row l.rows) o) (ys_fit l.rows f)
     where
-      go : (rs : List TopologyRow) → T (ordered (map topology_y rs)) → T (all_of (fits binary64) (map topology_y rs)) → T (all_of unit_weight (weights_of (pick_of (map topology_y rs) u) (map row_anchors rs)))
+      go : (rs : List TopologyRow) → T (ordered (map topology_y rs)) → T (list_all (fits binary64) (map topology_y rs)) → T (list_all unit_weight (weights_of (pick_of (map topology_y rs) u) (map row_anchors rs)))
       go [] o f = spread_none (pick_of [] u)
       go (r ∷ rs) o f = spread_unit (pick_of (map topology_y (r ∷ rs)) u) (map row_anchors (r ∷ rs)) (pick_unit (map topology_y (r ∷ rs)) u o f fu tu (omega arith))
 
-  module _ (t : List TopologyLayer) (oz : T (ordered (map topology_z t))) (ol : T (all_of ordered_layer t)) (ft : T (all_of fits_layer t)) where
-    layers : T (all_of (λ (l : TopologyLayer). ordered_layer l && fits_layer l) t)
+  module _ (t : List TopologyLayer) (oz : T (ordered (map topology_z t))) (ol : T (list_all ordered_layer t)) (ft : T (list_all fits_layer t)) where
+    layers : T (list_all (λ (l : TopologyLayer). ordered_layer l && fits_layer l) t)
     layers = all_and ordered_layer fits_layer t ol ft
 
     -- every weight is finite and from 0 to 1
-    pub weights_unit : (a : Axis) → T (all_of unit_weight (weights_on a t u))
+    pub weights_unit : (a : Axis) → T (list_all unit_weight (weights_on a t u))
     unfolding weights_on
     weights_unit X = concat_unit (layer_weights_x u) (λ (l : TopologyLayer). ordered_layer l && fits_layer l) layer_unit_x t layers
     weights_unit Y = concat_unit (layer_weights_y u) (λ (l : TopologyLayer). ordered_layer l && fits_layer l) layer_unit_y t layers
     weights_unit Z = go t oz (zs_fit t ft)
       where
-        go : (ls : List TopologyLayer) → T (ordered (map topology_z ls)) → T (all_of (fits binary64) (map topology_z ls)) → T (all_of unit_weight (weights_of (layer_pick (map topology_z ls) u) (map layer_anchors ls)))
+        go : (ls : List TopologyLayer) → T (ordered (map topology_z ls)) → T (list_all (fits binary64) (map topology_z ls)) → T (list_all unit_weight (weights_of (layer_pick (map topology_z ls) u) (map layer_anchors ls)))
         go [] o f = spread_none (layer_pick [] u)
         go (l ∷ ls) o f = spread_unit (layer_pick (map topology_z (l ∷ ls)) u) (map layer_anchors (l ∷ ls)) (layer_pick_unit (map topology_z (l ∷ ls)) u o f fu lo hi (omega arith))
 
 -- ---- sums of weights
-added_clear : (s : Float) (name : ℕ) (ws : List Weight) → T (clear s) → T (all_of unit_weight ws) → T (clear (added_up s name ws))
+added_clear : (s : Float) (name : ℕ) (ws : List Weight) → T (clear s) → T (list_all unit_weight ws) → T (clear (added_up s name ws))
 unfolding added_up
 added_clear s name [] c h = c
-added_clear s name (w ∷ ws) c h = added_clear (cond (eqb w.name name) (s ⊕ w.weight) s) name ws (go (eqb w.name name)) (and_r (unit_weight w) (all_of unit_weight ws) h)
+added_clear s name (w ∷ ws) c h = added_clear (cond (eqb w.name name) (s ⊕ w.weight) s) name ws (go (eqb w.name name)) (and_r (unit_weight w) (list_all unit_weight ws) h)
   where
     x : Float
     x = w.weight
 
     low : T (le zero64 x)
-    low = and_l (le zero64 x) (le x one64) (and_r (finite x) (is_between zero64 one64 x) (and_l (unit_weight w) (all_of unit_weight ws) h))
+    low = and_l (le zero64 x) (le x one64) (and_r (finite x) (is_between zero64 one64 x) (and_l (unit_weight w) (list_all unit_weight ws) h))
 
     go : (b : Bool) → T (clear (cond b (s ⊕ x) s))
     go true = add_from_zero binary64 s x c low
     go false = c
 
 -- ---- a response has no sign
-pub response_clear : (a : Axis) (t : List TopologyLayer) (u : Float) (name : ℕ) → T (ordered (map topology_z t)) → T (all_of ordered_layer t) → T (all_of fits_layer t) → T (fits binary64 u) → T (le zero64 u) → T (le u one64) → T (clear (response_on a t u name))
+pub response_clear : (a : Axis) (t : List TopologyLayer) (u : Float) (name : ℕ) → T (ordered (map topology_z t)) → T (list_all ordered_layer t) → T (list_all fits_layer t) → T (fits binary64 u) → T (le zero64 u) → T (le u one64) → T (clear (response_on a t u name))
 unfolding response_on
 response_clear a t u name oz ol ft fu lo hi = added_clear zero64 name (weights_on a t u) tt (weights_unit u fu lo hi t oz ol ft a)

@@ -1,5 +1,5 @@
 -- The sum of the powers of the products that count is the sum over all samples: one that does not count adds +0, which changes nothing. Assumes nothing.
-use Prim.Native.Nat.{ℕ, zero, suc, ◌+◌, ◌<◌, ◌≤◌}
+use Prim.Native.Nat.{ℕ, zero, suc, ◌+◌, ◌<◌}
 use mathlib.Core.Path.{◌≡◌, refl, sym, ap, ◌∙◌, subst}
 use mathlib.Core.Bool.{Bool, true, false, not, ◌&&◌, cond}
 use mathlib.Core.List.{List, [], ◌∷◌, ◌++◌, map}
@@ -7,8 +7,8 @@ use native.Mathlib.Numerals.{add-one}
 use lib.Dec.{T}
 use lib.Ieee.{Float, binary64, fits, lt, le}
 use lib.Ieee.Scale.{finite}
-use lib.ListN.{length, take, get_or, set}
-use lib.Seq.{slice, slice-cons, slice_empty, take-suc-set}
+use lib.ListN.{length, take, set}
+use lib.Seq.{take-suc-set}
 use Rattle.doubles.specs.Arithmetic.{◌⊕◌, ◌⊗◌, zero64}
 use Rattle.approximations.specs.Log2.{log2_of}
 use Rattle.approximations.specs.Powers.{power_of}
@@ -76,9 +76,3 @@ products_more K R s m y l h c = rw (add-one, add-one, c, take-suc-set y m (K s �
 pub products_same : (K R : ℕ → Float) (s m : ℕ) (y : List Float) → take m y ≡ products_of K R s → counts (K s) (R s) ≡ false → take m y ≡ products_of K R (s + 1)
 unfolding products_of
 products_same K R s m y h c = rw (add-one, c) h
-
-pub sum_more : (x : Float) (i n : ℕ) (y : List Float) (d : Float) → i < n → n ≤ length y → sum_from x (slice i n y) ≡ sum_from (x ⊕ get_or y i d) (slice (i + 1) n y)
-sum_more x i n y d h k = rw (add-one, slice-cons i n y d h k)
-
-pub sum_done : (x : Float) (i n : ℕ) (y : List Float) → i ≡ n → sum_from x (slice i n y) ≡ x
-sum_done x i n y e = rw (e, slice_empty n y)

@@ -3,7 +3,7 @@ use Prim.Native.Nat.{ℕ, zero, suc, ◌+◌, ◌-◌, ◌*◌, ◌/◌, ◌%◌
 use mathlib.Core.Path.{◌≡◌, refl, ap, ◌∙◌}
 use mathlib.Core.Bool.{Bool, true, false, cond}
 use mathlib.Core.List.{List}
-use native.Mathlib.Nat.{div-eq_of_lt-le, mod-eq-sub-div-mul, mul-le-mul_right}
+use native.Mathlib.Nat.{div-eq_of_lt-le, mod-eq-sub-div-mul}
 use native.Mathlib.Omega.{arith}
 use borrow.Author.Tests.{lt-ltb, le-ltb}
 use lib.Dec.{T}
@@ -50,12 +50,6 @@ pub rows_patched : (base n a r : ℕ) (F : ℕ → Float) (xs : List Float) → 
 rows_patched base n a r F xs h =
     patched_both (row base n r) (within a (base + r * n)) F xs
     ∙ patched_where (either (within a (base + r * n)) (row base n r)) (within a (base + (r + 1) * n)) F xs (λ (i : ℕ) (k : i < length xs). rows_more base n a r i h)
-
--- the last row ends where the rows do
-pub row_room : (n r m : ℕ) → r < m → r * n + n ≤ m * n
-row_room n r m h =
-    let l : r + 1 ≤ m = omega arith in
-    omega (arith, mul-le-mul_right n l)
 
 -- the rows of X, and the rows of Y
 pub number_X : (x y : List Float) (r k : ℕ) → r < 700 → number_xy x y r k ≡ knot_number X x r k

@@ -14,7 +14,8 @@ use mir.Facts.{and_yes}
 use Rattle.doubles.specs.Arithmetic.{◌⊖◌, ◌⊗◌, ◌⊘◌, from_int, one64, minus_one64, zero64}
 use Rattle.doubles.specs.Floor.{floor_of}
 use Rattle.doubles.specs.Range.{is_between}
-use Rattle.lists.specs.Lists.{all_of, chain_from}
+use Rattle.lists.specs.Lists.{chain_from}
+use Rattle.std.specs.List.{list_all}
 use Rattle.layout.specs.Questions.{in_room, ordered}
 use Rattle.field.specs.declared.Pick.{Pick}
 use Rattle.field.specs.declared.Pick.TheVariants.{One}
@@ -79,11 +80,11 @@ pick_same u f (next {x = x} {y = y} {xs = xs} {ys = ys} w e) o =
     ∙ ap (λ (b : Bool). cond b (One 0) (cond (le (get_or (y ∷ ys) (length ys) nan) u) (One (length ys)) (pair_at (y ∷ ys) u (count_below u (y ∷ ys))))) (same_le x y w u)
     ∙ sym (pick_form u y ys)
   where
-    p : T (all_of in_room (x ∷ xs)) × T (chain_from lt x xs)
-    p = and_yes (all_of in_room (x ∷ xs)) (chain_from lt x xs) o
+    p : T (list_all in_room (x ∷ xs)) × T (chain_from lt x xs)
+    p = and_yes (list_all in_room (x ∷ xs)) (chain_from lt x xs) o
 
     t : T (finite x)
-    t = (and_yes (finite x) (is_between minus_one64 one64 x) (and_yes (in_room x) (all_of in_room xs) p.0).0).0
+    t = (and_yes (finite x) (is_between minus_one64 one64 x) (and_yes (in_room x) (list_all in_room xs) p.0).0).0
 
     go : (b : Bool) → le u x ≡ b → cond b (One 0) (cond (le (get_or (x ∷ xs) (length xs) nan) u) (One (length xs)) (pair_at (x ∷ xs) u (count_below u (x ∷ xs)))) ≡ cond b (One 0) (cond (le (get_or (y ∷ ys) (length ys) nan) u) (One (length ys)) (pair_at (y ∷ ys) u (count_below u (y ∷ ys))))
     go true g = refl

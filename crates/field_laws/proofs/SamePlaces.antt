@@ -8,7 +8,7 @@ use lib.Ieee.{Float, nan}
 use lib.Ieee.Scale.{finite}
 use lib.ListN.{length, get_or}
 use Rattle.doubles.specs.Arithmetic.{one64, zero64}
-use Rattle.lists.specs.Lists.{filtered}
+use Rattle.std.specs.List.{filter}
 use Rattle.layout.specs.declared.Channel.{Channel}
 use Rattle.layout.specs.Channels.{active, channel_name}
 use Rattle.layout.specs.Topology.{TopologyLayer}
@@ -62,7 +62,7 @@ module _ (a b : Room) (sound : SoundRoom a) (channels : a.channels ≡ b.channel
   alike_response axis u name f = response_same u f a.layers b.layers alike sound.z_ordered sound.layers_ordered axis name
 
   alike_names : names_in a ≡ names_in b
-  alike_names = ap (λ (l : List Channel). map channel_name (filtered active l)) channels
+  alike_names = ap (λ (l : List Channel). map channel_name (filter active l)) channels
 
   alike_written : (r : ℕ) → row_written a.layers r ≡ row_written b.layers r
   alike_written r = ap (λ (n : ℕ). ltb r 1486 && (ltb 1 n || not (row_of_z r))) (each_length alike)

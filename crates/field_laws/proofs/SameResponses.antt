@@ -9,7 +9,8 @@ use lib.Ieee.Scale.{finite}
 use lib.ListN.{get_or}
 use mir.Facts.{and_yes}
 use Rattle.doubles.specs.Arithmetic.{one64, zero64}
-use Rattle.lists.specs.Lists.{all_of, flatten}
+use Rattle.lists.specs.Lists.{flatten}
+use Rattle.std.specs.List.{list_all}
 use Rattle.layout.specs.declared.Anchor.{Anchor}
 use Rattle.layout.specs.Topology.{TopologyRow, TopologyLayer, anchor_x}
 use Rattle.layout.specs.Questions.{ordered, ordered_row, ordered_layer, topology_y, topology_z}
@@ -38,10 +39,10 @@ module _ {A B : Type 0} {R : A → B → Type 0} where
   each_part (suc i) (next w e) = each_part i e
 
 -- what is the same of each that passes a test, is the same of all
-each_same : {A B : Type 0} {R : A → A → Type 0} (q : A → Bool) (f : A → List B) → ((x y : A) → R x y → T (q x) → f x ≡ f y) → {xs ys : List A} → Each R xs ys → T (all_of q xs) → flatten (map f xs) ≡ flatten (map f ys)
+each_same : {A B : Type 0} {R : A → A → Type 0} (q : A → Bool) (f : A → List B) → ((x y : A) → R x y → T (q x) → f x ≡ f y) → {xs ys : List A} → Each R xs ys → T (list_all q xs) → flatten (map f xs) ≡ flatten (map f ys)
 each_same q f h end t = refl
 each_same q f h (next {x = x} {y = y} {xs = xs} w e) t =
-    let p = and_yes (q x) (all_of q xs) t in
+    let p = and_yes (q x) (list_all q xs) t in
     ap₂ ◌++◌ (h x y w p.0) (each_same q f h e p.1)
 
 -- ---- the weights of a pick
@@ -83,13 +84,13 @@ module _ (u : Float) (f : T (finite u)) where
 
   layer_same_x : (l m : TopologyLayer) → LayerAlike l m → T (ordered_layer l) → layer_weights_x u l ≡ layer_weights_x u m
   unfolding layer_weights_x
-  layer_same_x l m w o = each_same ordered_row (row_weights_x u) row_same w.1 (and_yes (ordered (map topology_y l.rows)) (all_of ordered_row l.rows) o).1
+  layer_same_x l m w o = each_same ordered_row (row_weights_x u) row_same w.1 (and_yes (ordered (map topology_y l.rows)) (list_all ordered_row l.rows) o).1
 
   layer_same_y : (l m : TopologyLayer) → LayerAlike l m → T (ordered_layer l) → layer_weights_y u l ≡ layer_weights_y u m
   unfolding layer_weights_y
-  layer_same_y l m w o = picked (pick_same u f (ys_alike w.1) (and_yes (ordered (map topology_y l.rows)) (all_of ordered_row l.rows) o).0) (rows_alike w.1)
+  layer_same_y l m w o = picked (pick_same u f (ys_alike w.1) (and_yes (ordered (map topology_y l.rows)) (list_all ordered_row l.rows) o).0) (rows_alike w.1)
 
-  module _ (t v : List TopologyLayer) (w : TopologyAlike t v) (oz : T (ordered (map topology_z t))) (ol : T (all_of ordered_layer t)) where
+  module _ (t v : List TopologyLayer) (w : TopologyAlike t v) (oz : T (ordered (map topology_z t))) (ol : T (list_all ordered_layer t)) where
     weights_same : (a : Axis) → weights_on a t u ≡ weights_on a v u
     unfolding weights_on
     weights_same X = each_same ordered_layer (layer_weights_x u) layer_same_x w ol

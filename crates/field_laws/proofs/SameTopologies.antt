@@ -7,7 +7,8 @@ use lib.Dec.{T, eqb, eqb→eq}
 use lib.Ieee.{Float, binary64, eq, fits}
 use lib.ListN.{length}
 use mir.Facts.{and_yes}
-use Rattle.lists.specs.Lists.{all_of, all_same}
+use Rattle.lists.specs.Lists.{all_same}
+use Rattle.std.specs.List.{list_all}
 use Rattle.layout.specs.declared.Anchor.{Anchor}
 use Rattle.layout.specs.Topology.{TopologyRow, TopologyLayer}
 use Rattle.layout.specs.Room.{Room}
@@ -47,26 +48,26 @@ TopologyAlike = Each LayerAlike
 -- ---- entries that are the same, with doubles for coordinates
 module _ {A : Type 0} (good : A → Bool) (R : A → A → Type 0) where
   module _ (r : A → A → Bool) (opens : (x y : A) → T (r x y) → T (good x) → T (good y) → R x y) where
-    entries_alike : (xs ys : List A) → T (all_same r xs ys) → T (all_of good xs) → T (all_of good ys) → Each R xs ys
+    entries_alike : (xs ys : List A) → T (all_same r xs ys) → T (list_all good xs) → T (list_all good ys) → Each R xs ys
     entries_alike [] [] h p q = end
     entries_alike [] (y ∷ ys) h p q = absurd h
     entries_alike (x ∷ xs) [] h p q = absurd h
     entries_alike (x ∷ xs) (y ∷ ys) h p q =
         let e = and_yes (r x y) (all_same r xs ys) h in
-        let v = and_yes (good x) (all_of good xs) p in
-        let w = and_yes (good y) (all_of good ys) q in
+        let v = and_yes (good x) (list_all good xs) p in
+        let w = and_yes (good y) (list_all good ys) q in
         next (opens x y e.0 v.0 w.0) (entries_alike xs ys e.1 v.1 w.1)
 
   -- and entries that a function keeps alike
-  mapped_alike : (f : A → A) → ((x : A) → T (good x) → R x (f x)) → (xs : List A) → T (all_of good xs) → Each R xs (map f xs)
+  mapped_alike : (f : A → A) → ((x : A) → T (good x) → R x (f x)) → (xs : List A) → T (list_all good xs) → Each R xs (map f xs)
   mapped_alike f h [] p = end
-  mapped_alike f h (x ∷ xs) p = let v = and_yes (good x) (all_of good xs) p in next (h x v.0) (mapped_alike f h xs v.1)
+  mapped_alike f h (x ∷ xs) p = let v = and_yes (good x) (list_all good xs) p in next (h x v.0) (mapped_alike f h xs v.1)
 
-row_fits : (w : TopologyRow) → T (fits_row w) → T (fits binary64 w.y) × T (all_of fits_anchor w.anchors)
-row_fits w h = and_yes (fits binary64 w.y) (all_of fits_anchor w.anchors) h
+row_fits : (w : TopologyRow) → T (fits_row w) → T (fits binary64 w.y) × T (list_all fits_anchor w.anchors)
+row_fits w h = and_yes (fits binary64 w.y) (list_all fits_anchor w.anchors) h
 
-layer_fits : (y : TopologyLayer) → T (fits_layer y) → T (fits binary64 y.z) × T (all_of fits_row y.rows)
-layer_fits y h = and_yes (fits binary64 y.z) (all_of fits_row y.rows) h
+layer_fits : (y : TopologyLayer) → T (fits_layer y) → T (fits binary64 y.z) × T (list_all fits_row y.rows)
+layer_fits y h = and_yes (fits binary64 y.z) (list_all fits_row y.rows) h
 
 anchor_alike : (x y : Anchor) → T (same_anchor x y) → T (fits_anchor x) → T (fits_anchor y) → AnchorAlike x y
 anchor_alike x y h p q =
@@ -88,7 +89,7 @@ layer_alike x y h p q =
     (alike_of x.z y.z v.0 w.0 e.0, entries_alike fits_row RowAlike same_row row_alike x.rows y.rows e.1 v.1 w.1)
 
 -- ---- the laws
-pub same_topology : (a b : Room) → T (all_of fits_layer a.layers) → T (all_of fits_layer b.layers) → T (same_room a b) → TopologyAlike a.layers b.layers
+pub same_topology : (a b : Room) → T (list_all fits_layer a.layers) → T (list_all fits_layer b.layers) → T (same_room a b) → TopologyAlike a.layers b.layers
 same_topology a b p q h = entries_alike fits_layer LayerAlike same_layer layer_alike a.layers b.layers (same_layers a b h) p q
 
 module _ (f : Float → Float) (alike : (x : Float) → T (fits binary64 x) → Alike x (f x)) where
@@ -102,5 +103,5 @@ module _ (f : Float → Float) (alike : (x : Float) → T (fits binary64 x) → 
       let p = layer_fits y h in
       (alike y.z p.0, mapped_alike fits_row RowAlike (mapped_row f) row_mapped y.rows p.1)
 
-  pub mapped_topology : (ys : List TopologyLayer) → T (all_of fits_layer ys) → TopologyAlike ys (map (mapped_layer f) ys)
+  pub mapped_topology : (ys : List TopologyLayer) → T (list_all fits_layer ys) → TopologyAlike ys (map (mapped_layer f) ys)
   mapped_topology = mapped_alike fits_layer LayerAlike (mapped_layer f) layer_mapped

@@ -26,7 +26,8 @@ use Rattle.lists.specs.Lists.{zip_with}
 use Rattle.extent.proofs.Tests.{yes}
 use Rattle.gains.proofs.DiffuseSigns.{table_rows, CentreFits, Good, diffuse_fits, diffuse_clear}
 use Rattle.gains.proofs.lookup.Listing.{length_listed, get_or_listed}
-use Rattle.gains.proofs.gains.Front.{get_or_mapped, zipped_long, get_or_zipped}
+use Rattle.std.proofs.lemmas.List.{get_or-map}
+use Rattle.gains.proofs.gains.Front.{zipped_long, get_or_zipped}
 use Rattle.gains.proofs.gains.Asks.{asked}
 use Rattle.gains.proofs.gains.Normal.{normalized_length}
 use Rattle.gains.proofs.gains.HalfTurn.{Weights, weights}
@@ -53,9 +54,9 @@ normalized_bounded v k h p = go (finite (sum_squares v) && lt zero64 (sum_square
     go : (b : Bool) → finite (sum_squares v) && lt zero64 (sum_squares v) ≡ b → Bounded (get_or (cond b (map (λ (x : Float). x ⊘ sqrt_of binary64 (sum_squares v)) v) (map (λ (x : Float). zero64) v)) k nan)
     go true e =
         let t = yes e in
-        subst Bounded (sym (get_or_mapped (λ (x : Float). x ⊘ sqrt_of binary64 (sum_squares v)) v k nan h))
+        subst Bounded (sym (get_or-map (λ (x : Float). x ⊘ sqrt_of binary64 (sum_squares v)) v k nan nan h))
         (norm_bound v (get_or v k nan) (and_l (finite (sum_squares v)) (lt zero64 (sum_squares v)) t) (and_r (finite (sum_squares v)) (lt zero64 (sum_squares v)) t) (get_or_mem v k nan h) p.0 p.1)
-    go false e = subst Bounded (sym (get_or_mapped (λ (x : Float). zero64) v k nan h)) zero_bounded
+    go false e = subst Bounded (sym (get_or-map (λ (x : Float). zero64) v k nan nan h)) zero_bounded
 
 half_not_neg : T (not_neg (dec 5 1))
 unfolding round
@@ -85,7 +86,7 @@ module _ (points field : List Float) (n : ℕ) (p : length points ≡ n) (q : le
       let y = get_or field k nan in
       let long = length-map field g in
       normalized_bounded (map g field) k (omega arith)
-      (subst Plus (sym (get_or_mapped g field k nan (omega arith))) (mul-fits (dec 5 1) y, mul_not_neg (dec 5 1) y half_not_neg (not_neg_of_le y d.1)))
+      (subst Plus (sym (get_or-map g field k nan nan (omega arith))) (mul-fits (dec 5 1) y, mul_not_neg (dec 5 1) y half_not_neg (not_neg_of_le y d.1)))
 
 -- ---- the centre
 clamp_fits : (x : Float) → T (fits binary64 x) → T (fits binary64 (clamp_to zero64 one64 x))

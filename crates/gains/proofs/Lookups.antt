@@ -3,26 +3,27 @@ use Prim.Native.Nat.{ℕ, suc, ◌+◌, ◌-◌, ◌*◌, ◌≤◌, ◌<◌}
 use mathlib.Core.Path.{◌≡◌, refl, sym, ap, ◌∙◌, subst}
 use mathlib.Core.Logic.{◌⊎◌, inl, inr}
 use mathlib.Core.Bool.{Bool, true, false}
-use native.Mathlib.Nat.{le_refl, mul-le-mul_right}
+use mathlib.Core.List.{List}
+use native.Mathlib.Nat.{le_refl}
 use native.Mathlib.Omega.{arith}
 use borrow.Author.Tests.{le-ltb}
 use lib.Dec.{T}
 use lib.Ieee.{Float, nan, inf, fin, binary64, up, down, add, mul, lt, le, eq, fits}
 use lib.Ieee.Scale.{finite}
+use lib.ListN.{length, get_or}
 use Rattle.doubles.specs.Arithmetic.{◌⊕◌, ◌⊖◌, ◌⊘◌, one64, zero64}
 use Rattle.doubles.proofs.Laws.{add-fits, lerp_clear}
 use Rattle.doubles.proofs.Magnitude.{plain, plain_finite}
 use Rattle.doubles.proofs.Signs.{clear}
 use Rattle.gains.specs.declared.Bracket.{Bracket}
-use Rattle.field.specs.Knots.{X, Y, Z, steps, radius_knot}
-use Rattle.gains.specs.Lookup.{tabulate, centre_knots, radius_knots, at_knot, bracket_of, mixed, at_centre, lookup_of}
+use Rattle.field.specs.Knots.{X, Y, Z}
+use Rattle.gains.specs.Lookup.{centre_knots, radius_knots, at_knot, bracket_of, mixed, at_centre, lookup_of}
 use Rattle.field.specs.Responses.{count_below}
-use Rattle.field.proofs.ResponseOrder.{not_lt_of_not_le}
 use Rattle.extent.proofs.Tests.{yes}
 use Rattle.gains.proofs.lookup.Comparing.{le_of_lt, le_of_not_lt, nan_of, between_plain}
-use Rattle.gains.proofs.lookup.Listing.{below_before, below_at, below_most, below_some}
-use Rattle.gains.proofs.lookup.Rising.{Rising, rising_34, rising_3, rising_radius}
-use Rattle.gains.proofs.lookup.Cases.{knots, knots_length, knots_at, knots_first, between_same, at_first, at_last, between_by, at_no_number}
+use Rattle.gains.proofs.lookup.Listing.{below_before, below_at}
+use Rattle.gains.proofs.lookup.Rising.{Rising, rising_wide, rising_high, rising_radius}
+use Rattle.gains.proofs.lookup.Cases.{at_first, at_last, between_by, some_below, at_no_number}
 use Rattle.gains.proofs.lookup.Quotient.{quotient_up_to}
 
 -- ---- a bracket's numbers
@@ -52,57 +53,51 @@ plain_from t p = yes (le_of_not_lt t zero64 (plain_finite t p) tt (not_under t p
     not_under (fin true m e) p = absurd p
     not_under (fin false m e) p = unfold lt in le-ltb (m * up e * 1) (0 * 1 * down e) (omega arith)
 
-module _ (f : ℕ → Float) (last : ℕ) (r : Rising f last) (v : Float) (d : T (fits binary64 v)) where
-  -- between two knots
-  between : lt zero64 v ≡ true → le (f last) v ≡ false → Placed last v (bracket_of (tabulate f (last + 1)) v)
-  between h e =
-      let xs = knots f last r in
-      let k = count_below v xs in
-      let n = knots_length f last r in
-      let some : 1 ≤ k = below_some v xs (ap (λ (x : Float). lt x v) (knots_first f last r) ∙ h) (omega arith) in
-      let most : k ≤ last = below_most v xs last (omega arith) (ap (λ (x : Float). lt x v) (knots_at f last r last (omega arith)) ∙ not_lt_of_not_le (f last) v e) in
-      let less : k - 1 ≤ last = omega arith in
-      let j : suc (k - 1) ≡ k = omega arith in
-      let under : lt (f (k - 1)) v ≡ true = ap (λ (x : Float). lt x v) (sym (knots_at f last r (k - 1) less)) ∙ below_before v xs (k - 1) (omega arith) in
-      let over : lt (f k) v ≡ false = ap (λ (x : Float). lt x v) (sym (knots_at f last r k most)) ∙ below_at v xs (omega arith) in
-      let apart : lt zero64 (f k ⊖ f (k - 1)) ≡ true = ap (λ (i : ℕ). lt zero64 (f i ⊖ f (k - 1))) (sym j) ∙ r.apart (k - 1) (omega arith) in
-      let p = between_plain zero64 (f last) v tt (r.plains last (omega arith)) h e in
-      let pa = r.plains (k - 1) less in
-      let pb = r.plains k most in
-      let q = quotient_up_to binary64 (f (k - 1)) v (f k) (r.doubles (k - 1) less) d (r.doubles k most) pa p pb (le_of_lt (f (k - 1)) v under) (yes (le_of_not_lt (f k) v (plain_finite (f k) pb) (plain_finite v p) over)) apart in
-      let t = (v ⊖ f (k - 1)) ⊘ (f k ⊖ f (k - 1)) in
-      subst (Placed last v) (sym (between_by f last r v h e ∙ between_same f last r v k most))
-      (record { order = omega arith; within = most; double = q.0; share = inr (plain_finite t q.1, plain_from t q.1, q.2) })
+module _ (xs : List Float) (r : Rising xs) (v : Float) (d : T (fits binary64 v)) where
+  abbrev last : ℕ
+  last = length xs - 1
 
-  pub placed : Placed last v (bracket_of (tabulate f (last + 1)) v)
-  placed = go (le v zero64) (lt zero64 v) (le (f last) v) refl refl refl
+  -- between two knots
+  between : lt zero64 v ≡ true → le (get_or xs last nan) v ≡ false → Placed last v (bracket_of xs v)
+  between h e =
+      let k = count_below v xs in
+      let s = some_below xs r v h e in
+      let j : suc (k - 1) ≡ k = omega arith in
+      let a = get_or xs (k - 1) nan in
+      let b = get_or xs k nan in
+      let under : lt a v ≡ true = below_before v xs (k - 1) (omega arith) in
+      let over : lt b v ≡ false = below_at v xs (omega arith) in
+      let apart : lt zero64 (b ⊖ a) ≡ true = ap (λ (i : ℕ). lt zero64 (get_or xs i nan ⊖ a)) (sym j) ∙ r.apart (k - 1) (omega arith) in
+      let p = between_plain zero64 (get_or xs last nan) v tt (r.plains last (omega arith)) h e in
+      let pa = r.plains (k - 1) (omega arith) in
+      let pb = r.plains k (omega arith) in
+      let q = quotient_up_to binary64 a v b (r.doubles (k - 1) (omega arith)) d (r.doubles k (omega arith)) pa p pb (le_of_lt a v under) (yes (le_of_not_lt b v (plain_finite b pb) (plain_finite v p) over)) apart in
+      let t = (v ⊖ a) ⊘ (b ⊖ a) in
+      subst (Placed last v) (sym (between_by xs r v h e))
+      (record { order = omega arith; within = omega arith; double = q.0; share = inr (plain_finite t q.1, plain_from t q.1, q.2) })
+
+  pub placed : Placed last v (bracket_of xs v)
+  placed = go (le v zero64) (lt zero64 v) (le (get_or xs last nan) v) refl refl refl
     where
-      go : (a b c : Bool) → le v zero64 ≡ a → lt zero64 v ≡ b → le (f last) v ≡ c → Placed last v (bracket_of (tabulate f (last + 1)) v)
-      go true b c e g h = subst (Placed last v) (sym (at_first f last r v e)) (at_knot_lem last v 0 (omega arith))
+      go : (a b c : Bool) → le v zero64 ≡ a → lt zero64 v ≡ b → le (get_or xs last nan) v ≡ c → Placed last v (bracket_of xs v)
+      go true b c e g h = subst (Placed last v) (sym (at_first xs r v e)) (at_knot_lem last v 0 (omega arith))
       go false false c e g h =
           let z = nan_of v g e in
-          subst (Placed last v) (sym (at_no_number f last r v g e)) (record { order = omega arith; within = omega arith; double = d; share = inl (z, z) })
-      go false true true e g h = subst (Placed last v) (sym (at_last f last r v g h)) (at_knot_lem last v last (omega arith))
+          subst (Placed last v) (sym (at_no_number xs r v g e)) (record { order = omega arith; within = omega arith; double = d; share = inl (z, z) })
+      go false true true e g h = subst (Placed last v) (sym (at_last xs r v g h)) (at_knot_lem last v last (omega arith))
       go false true false e g h = between g h
 
 pub placed_X : (v : Float) → T (fits binary64 v) → Placed 34 v (bracket_of (centre_knots X) v)
-placed_X v d = placed (steps 34) 34 rising_34 v d
+placed_X v d = placed (centre_knots X) rising_wide v d
 
 pub placed_Y : (v : Float) → T (fits binary64 v) → Placed 34 v (bracket_of (centre_knots Y) v)
-placed_Y v d = placed (steps 34) 34 rising_34 v d
+placed_Y v d = placed (centre_knots Y) rising_wide v d
 
 pub placed_Z : (v : Float) → T (fits binary64 v) → Placed 3 v (bracket_of (centre_knots Z) v)
-placed_Z v d = placed (steps 3) 3 rising_3 v d
+placed_Z v d = placed (centre_knots Z) rising_high v d
 
 pub placed_radius : (v : Float) → T (fits binary64 v) → Placed 19 v (bracket_of radius_knots v)
-placed_radius v d = placed radius_knot 19 rising_radius v d
-
--- a bracket's rows lie within a table that does, as `lookup` asks
-pub table_room : (from n last size : ℕ) (v : Float) (b : Bracket) → Placed last v b → from + (last * 20 + 20) * n ≤ size → from + (b.upper * 20 + 20) * n ≤ size
-table_room from n last size v b p h =
-    let w = p.within in
-    let l : b.upper * 20 + 20 ≤ last * 20 + 20 = omega arith in
-    omega (arith, mul-le-mul_right n l)
+placed_radius v d = placed radius_knots rising_radius v d
 
 -- ---- lookups
 add_nan : (a : Float) → T (clear (a ⊕ nan))

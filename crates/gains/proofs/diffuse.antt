@@ -5,3 +5,4 @@ pub mod Axes
 pub mod Field
 pub mod Steps
 pub mod Gathering
+pub mod Each

@@ -1,7 +1,7 @@
 -- `bracket` and `lookup`: bilinear, radius first. Definitions only.
-use Rattle.std.specs.Prelude.{ℕ, zero, suc, ◌+◌, ◌-◌, ◌*◌, ◌≤◌, ◌<◌, ◌≡◌, true, false, cond, List, [], ◌∷◌, ◌++◌, Float, length, get_or}
+use Rattle.std.specs.Prelude.{ℕ, zero, suc, ◌+◌, ◌-◌, ◌*◌, cond, List, [], ◌∷◌, ◌++◌, Float, length, get_or}
 use Rattle.std.specs.Float.{nan}
-use Rattle.std.specs.Float.Ieee.{lt, le}
+use Rattle.std.specs.Float.Ieee.{le}
 use Rattle.doubles.specs.Arithmetic.{◌⊕◌, ◌⊖◌, ◌⊗◌, ◌⊘◌, zero64}
 use Rattle.field.specs.Knots.{Axis, X, Y, Z, centre_knot, radius_knot}
 use Rattle.field.specs.Responses.{count_below}
@@ -50,10 +50,3 @@ at_centre row r i = mixed (row (i * 20 + r.lower)) (row (i * 20 + r.upper)) r.t
 -- radius first, then centre
 unfoldable pub lookup_of : (ℕ → Float) → Bracket → Bracket → Float
 lookup_of row c r = mixed (at_centre row r c.lower) (at_centre row r c.upper) c.t
-
--- ---- a search: knot k - 1 of f is below v, and knot k is not, unless it is the last
-pub record Found (f : ℕ → Float) (last : ℕ) (v : Float) (k : ℕ) : Type 0 where
-  pub some : 1 ≤ k
-  pub within : k ≤ last
-  pub under : lt (f (k - 1)) v ≡ true
-  pub stops : k < last → lt (f k) v ≡ false

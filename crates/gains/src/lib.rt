@@ -3,7 +3,6 @@
 
 mod diffuse;
 mod gains;
-mod knot_tables;
 mod knots;
 mod lookup;
 mod walls;

@@ -1,40 +1,15 @@
 // The nearest wall.
 ghost use Rattle.std.specs.Prelude.{◌≡◌};
-ghost use Rattle.gains.specs.Walls.{distance_of, nearer_of, wall_x, wall_y, nearest_wall};
+ghost use Rattle.gains.specs.Walls.{distance_of, nearer_of, nearest_wall};
 
 use crate::Wall;
 use layout::Centre;
-
-// The nearest wall on X: at 0 or at 1, a tie to the first.
-fn wall_x(x: f64) -> Wall
-    ensures { result ≡ wall_x x }
-{
-    let far = 1.0 - x;
-    if far < x {
-        Wall::X(true, far)
-    } else {
-        Wall::X(false, x)
-    }
-}
-
-fn wall_y(y: f64) -> Wall
-    ensures { result ≡ wall_y y }
-{
-    let far = 1.0 - y;
-    if far < y {
-        Wall::Y(true, far)
-    } else {
-        Wall::Y(false, y)
-    }
-}
 
 pub(crate) fn distance_of(w: Wall) -> f64
     ensures { result ≡ distance_of w }
 {
     match w {
-        Wall::X(_, d) => d,
-        Wall::Y(_, d) => d,
-        Wall::Z(d) => d,
+        Wall::X(_, d) | Wall::Y(_, d) | Wall::Z(d) => d,
     }
 }
 
@@ -53,7 +28,9 @@ fn nearer(a: Wall, b: Wall) -> Wall
 pub(crate) fn nearest_wall(c: Centre, deep: bool) -> Wall
     ensures { result ≡ nearest_wall c deep }
 {
-    let w = nearer(wall_x(c.x), wall_y(c.y));
+    let on_x = nearer(Wall::X(false, c.x), Wall::X(true, 1.0 - c.x));
+    let on_y = nearer(Wall::Y(false, c.y), Wall::Y(true, 1.0 - c.y));
+    let w = nearer(on_x, on_y);
     if deep {
         nearer(w, Wall::Z(1.0 - c.z))
     } else {

@@ -1,10 +1,13 @@
 -- What `fill_place` tests is the opposite of `fillable`. Assumes nothing.
 use Prim.Native.Nat.{ℕ, ◌≤◌, ◌<◌}
 use mathlib.Core.Path.{◌≡◌, refl, sym, ap, ap₂, ◌∙◌}
-use mathlib.Core.Bool.{Bool, true, false, ◌&&◌, ◌||◌, not}
+use mathlib.Core.Bool.{Bool, true, false, ◌&&◌, ◌||◌, not, cond}
 use native.Mathlib.Omega.{arith}
 use borrow.Author.Tests.{ltb-true, ltb-false, leb-true, leb-false, eqb-true, lt-ltb, le-ltb, not-true, not-false}
 use lib.Dec.{leb, ltb, eqb}
+use Rattle.std.specs.Prelude.{Result, Ok, Err, is_err}
+use Rattle.layout.specs.declared.refusal.Refusal.{Refusal}
+use Rattle.layout.specs.Refusals.{refusal_of, answer_by}
 use Rattle.field.proofs.PlaceRows.{both_left, both_right}
 
 -- ---- each test is the opposite of the other
@@ -35,6 +38,14 @@ grant f s p = eqb f 0 && leb 285312 s && ltb p 8
 
 refusal_is : (f s p : ℕ) → refusal f s p ≡ not (grant f s p)
 refusal_is f s p = ap₂ (λ (b c : Bool). (not (eqb f 0) || b) || c) (short 285312 s) (beyond p) ∙ opposite (eqb f 0) (leb 285312 s) (ltb p 8)
+
+-- the test of the code
+pub test_is : (e : Bool) (r : Result (Unit {0}) Refusal) (q s p : ℕ) → e ≡ is_err r → r ≡ answer_by q tt → ((e || ltb s 285312) || ltb 7 p) ≡ refusal q s p
+test_is e r q s p h k = ap (λ (b : Bool). (b || ltb s 285312) || ltb 7 p) (h ∙ ap is_err k ∙ go (eqb q 0))
+  where
+    go : (b : Bool) → is_err {T = Unit {0}} (cond b (Ok tt) (Err (refusal_of q))) ≡ not b
+    go true = refl
+    go false = refl
 
 pub refused : (f g s p : ℕ) → f ≡ g → refusal f s p ≡ true → grant g s p ≡ false
 refused f g s p e h = ap (λ (k : ℕ). grant k s p) (sym e) ∙ not-true (grant f s p) (sym (refusal_is f s p) ∙ h)

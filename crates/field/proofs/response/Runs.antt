@@ -1,19 +1,16 @@
 -- One turn of each loop that adds responses. Assumes nothing.
-use Prim.Native.Nat.{ℕ, ◌+◌, ◌-◌, ◌*◌, ◌≤◌, ◌<◌}
+use Prim.Native.Nat.{ℕ, ◌+◌, ◌*◌, ◌≤◌, ◌<◌}
 use mathlib.Core.Path.{◌≡◌, refl}
 use mathlib.Core.List.{List}
 use native.Mathlib.Nat.{le_refl, le_trans}
 use native.Mathlib.Numerals.{add-one}
-use native.Mathlib.Omega.{arith}
 use lib.Dec.{T}
 use lib.Ieee.{Float, nan}
 use lib.Ieee.Scale.{finite}
 use lib.ListN.{length, get_or, take}
 use Rattle.field.specs.Knots.{steps}
 use Rattle.field.specs.Responses.{layer_pick}
-use Rattle.field.specs.Steps.Flat.{iterate, pick_added, group_pick, pick_end, response_added, responded, responded_z, Parted, Grouped}
-use Rattle.field.proofs.response.Picks.{part_pick_end}
-use Rattle.field.proofs.response.Parts.{fewer}
+use Rattle.field.specs.Steps.Flat.{iterate, pick_added, group_pick, response_added, responded, responded_z, Grouped}
 
 pub run_more : (n : ℕ) (g : ℕ → List Float → List Float) (out : List Float) → iterate (n + 1) g out ≡ g n (iterate n g out)
 unfolding iterate
@@ -30,22 +27,13 @@ module _ (at parts : List ℕ) (v : List Float) (groups : List ℕ) where
     unfolding response_added
     response_more g = run_more g _ out
 
-  -- a group's coordinates are there and finite, and its pick has its anchors
+  -- a group's first coordinate is finite
   module _ (count : ℕ) (u : Float) (t : T (finite u)) (k : Grouped v groups count) (g : ℕ) (h : g < count) where
     pub group_within : get_or groups (g + 1) 0 ≤ length v
     group_within = le_trans (k.ends g h) k.within
 
     pub group_first : T (finite (get_or v (get_or groups g 0) nan))
     group_first = k.finites g (get_or groups g 0) h (le_refl (get_or groups g 0)) (k.some g h)
-
-    pub group_last : T (finite (get_or v (get_or groups (g + 1) 0 - 1) nan))
-    group_last = let s = k.some g h in k.finites g (get_or groups (g + 1) 0 - 1) h (omega arith) (omega arith)
-
-    pub group_parted : Parted at parts (get_or groups count 0) → Parted at parts (pick_end (group_pick v groups u g))
-    unfolding group_pick
-    group_parted p =
-        fewer at parts (get_or groups count 0) (pick_end (group_pick v groups u g))
-        (le_trans (part_pick_end v (get_or groups g 0) (get_or groups (g + 1) 0) u (k.some g h) group_within t group_first) (k.ends g h)) p
 
   -- ---- one sample more
   module _ (count : ℕ) (out : List Float) where

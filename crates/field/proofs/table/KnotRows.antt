@@ -1,5 +1,5 @@
 -- The rows of the tables as the loops write them: one knot's numbers, and the rows written so far. Assumes nothing.
-use Prim.Native.Nat.{ℕ, ◌+◌, ◌-◌, ◌*◌, ◌/◌, ◌%◌, ◌≤◌, ◌<◌, zero-le}
+use Prim.Native.Nat.{ℕ, ◌+◌, ◌-◌, ◌*◌, ◌/◌, ◌%◌, ◌<◌}
 use mathlib.Core.Path.{◌≡◌, refl, sym, ap, ap₂, ◌∙◌}
 use mathlib.Core.Bool.{Bool, true, false, ◌||◌}
 use mathlib.Core.List.{List}
@@ -10,26 +10,24 @@ use Rattle.extent.specs.Kernel.{kernel_of, exponent_of}
 use Rattle.field.specs.Knots.{Axis, X, Y, Z, is_z, sample_count, sample, centre_knot, radius_knot}
 use Rattle.field.specs.Patched.{patched, within, either}
 use Rattle.field.specs.Tables.{sampled_over, knot_number, number_xy, row}
-use Rattle.field.proofs.Patching.{get_or_written, within_holds, within_fails, within_none, within_join, patched_none, patched_both, patched_where}
+use Rattle.field.proofs.Patching.{within_fails, within_none, within_join, patched_none, patched_both, patched_where}
 use Rattle.field.proofs.Tables.{sampled_cong, rows_more, rows_patched, row_patched, number_X, number_Y}
 
--- the kernels of a knot, written over a list
-abbrev pub kernels_at : Axis → ℕ → List Float → List Float
-kernels_at a knot zs = patched (within 0 (sample_count a)) (λ (s : ℕ). kernel_of (sample a s) (centre_knot a (knot / 20)) (radius_knot (knot % 20)) (is_z a)) zs
+-- a list has the kernels of a knot
+abbrev pub HasKernels : Axis → ℕ → List Float → Type 0
+HasKernels a knot ks = (s : ℕ) → s < sample_count a → get_or ks s nan ≡ kernel_of (sample a s) (centre_knot a (knot / 20)) (radius_knot (knot % 20)) (is_z a)
 
 -- the number of channel k from kernels in a list
 abbrev pub listed : Axis → List Float → List Float → ℕ → ℕ → Float
 listed a kernels responses knot k =
     sampled_over (λ (s : ℕ). get_or kernels s nan) (λ (s : ℕ). get_or responses (s * 24 + k) nan) (exponent_of (radius_knot (knot % 20))) (sample_count a)
 
-pub listed_is : (a : Axis) (zs responses : List Float) (knot k : ℕ) → sample_count a ≤ length zs → listed a (kernels_at a knot zs) responses knot k ≡ knot_number a responses knot k
+pub listed_is : (a : Axis) (ks responses : List Float) (knot k : ℕ) → HasKernels a knot ks → listed a ks responses knot k ≡ knot_number a responses knot k
 unfolding knot_number
-listed_is a zs responses knot k l =
+listed_is a ks responses knot k h =
     let K : ℕ → Float = λ (s : ℕ). kernel_of (sample a s) (centre_knot a (knot / 20)) (radius_knot (knot % 20)) (is_z a) in
     let R : ℕ → Float = λ (s : ℕ). get_or responses (s * 24 + k) nan in
-    sampled_cong (λ (s : ℕ). get_or (kernels_at a knot zs) s nan) K R R (exponent_of (radius_knot (knot % 20))) (sample_count a)
-    (λ (s : ℕ) (h : s < sample_count a). get_or_written (within 0 (sample_count a)) K zs s nan (omega arith) (within_holds 0 (sample_count a) s zero-le h))
-    (λ (s : ℕ) (h : s < sample_count a). refl)
+    sampled_cong (λ (s : ℕ). get_or ks s nan) K R R (exponent_of (radius_knot (knot % 20))) (sample_count a) h (λ (s : ℕ) (l : s < sample_count a). refl)
 
 -- ---- X and Y
 
@@ -38,12 +36,12 @@ abbrev pub table_xy : List Float → List Float → ℕ → ℕ → ℕ → Floa
 table_xy x y base n i = number_xy x y ((i - base) / n) ((i - base) % n)
 
 -- one knot's rows of X and Y
-pub knot_XY : (base n knot : ℕ) (x y zs xs : List Float) → knot < 700 → 20 ≤ length zs → patched (row base n (700 + knot)) (λ (i : ℕ). listed Y (kernels_at Y knot zs) y knot (i - (base + (700 + knot) * n))) (patched (row base n knot) (λ (i : ℕ). listed X (kernels_at X knot zs) x knot (i - (base + knot * n))) xs) ≡ patched (either (row base n knot) (row base n (700 + knot))) (table_xy x y base n) xs
-knot_XY base n knot x y zs xs h l =
-    row_patched base n (700 + knot) (listed Y (kernels_at Y knot zs) y knot) (number_xy x y) (patched (row base n knot) (λ (i : ℕ). listed X (kernels_at X knot zs) x knot (i - (base + knot * n))) xs)
-    (λ (k : ℕ). listed_is Y zs y knot k l ∙ sym (number_Y x y knot k))
+pub knot_XY : (base n knot : ℕ) (x y ks xs : List Float) → knot < 700 → HasKernels X knot ks → patched (row base n (700 + knot)) (λ (i : ℕ). listed Y ks y knot (i - (base + (700 + knot) * n))) (patched (row base n knot) (λ (i : ℕ). listed X ks x knot (i - (base + knot * n))) xs) ≡ patched (either (row base n knot) (row base n (700 + knot))) (table_xy x y base n) xs
+knot_XY base n knot x y ks xs h l =
+    row_patched base n (700 + knot) (listed Y ks y knot) (number_xy x y) (patched (row base n knot) (λ (i : ℕ). listed X ks x knot (i - (base + knot * n))) xs)
+    (λ (k : ℕ). listed_is Y ks y knot k l ∙ sym (number_Y x y knot k))
     ∙ ap (patched (row base n (700 + knot)) (table_xy x y base n))
-    (row_patched base n knot (listed X (kernels_at X knot zs) x knot) (number_xy x y) xs (λ (k : ℕ). listed_is X zs x knot k l ∙ sym (number_X x y knot k h)))
+    (row_patched base n knot (listed X ks x knot) (number_xy x y) xs (λ (k : ℕ). listed_is X ks x knot k l ∙ sym (number_X x y knot k h)))
     ∙ patched_both (row base n (700 + knot)) (row base n knot) (table_xy x y base n) xs
 
 -- the places written after some knots
@@ -85,10 +83,10 @@ abbrev pub table_z : List Float → ℕ → ℕ → ℕ → Float
 table_z z base n i = knot_number Z z ((i - base) / n - 1400) ((i - base) % n)
 
 -- one knot's row of Z
-pub knot_Z : (base n knot : ℕ) (z zs xs : List Float) → 8 ≤ length zs → patched (row base n (1400 + knot)) (λ (i : ℕ). listed Z (kernels_at Z knot zs) z knot (i - (base + (1400 + knot) * n))) xs ≡ patched (row base n (1400 + knot)) (table_z z base n) xs
-knot_Z base n knot z zs xs l =
-    row_patched base n (1400 + knot) (listed Z (kernels_at Z knot zs) z knot) (λ (r k : ℕ). knot_number Z z (r - 1400) k) xs
-    (λ (k : ℕ). listed_is Z zs z knot k l ∙ ap (λ (r : ℕ). knot_number Z z r k) (omega arith))
+pub knot_Z : (base n knot : ℕ) (z ks xs : List Float) → HasKernels Z knot ks → patched (row base n (1400 + knot)) (λ (i : ℕ). listed Z ks z knot (i - (base + (1400 + knot) * n))) xs ≡ patched (row base n (1400 + knot)) (table_z z base n) xs
+knot_Z base n knot z ks xs l =
+    row_patched base n (1400 + knot) (listed Z ks z knot) (λ (r k : ℕ). knot_number Z z (r - 1400) k) xs
+    (λ (k : ℕ). listed_is Z ks z knot k l ∙ ap (λ (r : ℕ). knot_number Z z r k) (omega arith))
 
 -- the places written after some knots
 abbrev pub written_z : ℕ → ℕ → ℕ → ℕ → Bool

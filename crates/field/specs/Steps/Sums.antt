@@ -1,6 +1,7 @@
 -- The sum over the samples as the code works it out: the products that count, their powers, and the powers' sum. Definitions only.
 use Rattle.std.specs.Prelude.{ℕ, zero, suc, Bool, ◌&&◌, not, cond, List, [], ◌∷◌, ◌++◌, Float}
 use Rattle.std.specs.Float.Ieee.{lt, le}
+use Rattle.std.specs.List.{fold}
 use Rattle.doubles.specs.Arithmetic.{◌⊕◌, ◌⊗◌, zero64}
 
 -- whether a sample with kernel k and response r adds something
@@ -15,5 +16,4 @@ products_of kernel response (suc s) =
 
 -- x and the numbers of a list, added from the left
 abbrev pub sum_from : Float → List Float → Float
-sum_from x [] = x
-sum_from x (y ∷ ys) = sum_from (x ⊕ y) ys
+sum_from x ys = fold (λ (sum y : Float). sum ⊕ y) x ys

@@ -1,37 +1,47 @@
 -- The responses of the three axes: the code's tables are those of the definition. Assumes nothing.
-use Prim.Native.Nat.{ℕ, ◌+◌, ◌*◌}
-use mathlib.Core.Path.{◌≡◌, refl, sym, ap, ◌∙◌, fun_ext}
-use mathlib.Core.Bool.{Bool, true, false, cond, true≢false}
-use mathlib.Core.List.{List, ◌++◌}
+use Prim.Native.Nat.{ℕ, ◌+◌, ◌*◌, ◌≤◌}
+use mathlib.Core.Path.{◌≡◌, sym, ap, ◌∙◌, subst, fun_ext}
+use mathlib.Core.Bool.{Bool, true, false}
+use mathlib.Core.List.{List}
+use native.Mathlib.Nat.{zero-add}
 use native.Mathlib.Omega.{arith}
-use lib.Ieee.{Float, nan}
-use lib.ListN.{get_or, drop}
+use lib.Dec.{T}
+use lib.Ieee.{Float, nan, binary64, fits}
+use lib.ListN.{get_or}
+use Rattle.doubles.specs.Arithmetic.{one64}
 use Rattle.gains.specs.declared.Bracket.{Bracket}
 use Rattle.layout.specs.declared.Centre.{Centre}
-use Rattle.field.specs.Knots.{steps}
-use Rattle.gains.specs.Lookup.{tabulate, channels, radius_knots, bracket_of, lookup_of}
-use Rattle.gains.specs.Diffuse.{place_rows, response_x, response_y, response_z}
+use Rattle.field.specs.Knots.{X, Y, Z}
+use Rattle.gains.specs.Lookup.{centre_knots, radius_knots, bracket_of, lookup_of}
+use Rattle.gains.proofs.Lookups.{Placed, placed_radius}
+use Rattle.gains.specs.Diffuse.{Rows, place_rows, response_x, response_y, response_z}
 
--- b is the radius's bracket
-module _ (store : List Float) (base n : ℕ) (c : Centre) (r : Float) (b : Bracket) (e : b ≡ bracket_of radius_knots r) (old : List Float) where
-  pub axis_X : channels n (λ (k : ℕ). lookup_of (λ (i : ℕ). get_or store (base + (i * n + k)) nan) (bracket_of (tabulate (steps 34) 35) c.x) b) ++ drop n old ≡ channels n (λ (k : ℕ). response_x (place_rows store base n k) c r) ++ drop n old
+-- a table that begins in row m
+pub rows_from : (store : List Float) (base n m k : ℕ) → ◌≡◌ {A = ℕ → Float} (λ (i : ℕ). get_or store (base + m * n + (i * n + k)) nan) (λ (i : ℕ). place_rows store base n k (m + i))
+rows_from store base n m k = fun_ext (λ (i : ℕ). let j : base + m * n + (i * n + k) ≡ base + ((m + i) * n + k) = omega arith in ap (λ (a : ℕ). get_or store a nan) j)
+
+-- ---- the bracket of a radius, by way of the code
+module _ (xs : List Float) (r : Float) (b : Bracket) (h : xs ≡ radius_knots) (e : b ≡ bracket_of xs r) where
+  pub of_radius : b ≡ bracket_of radius_knots r
+  of_radius = e ∙ ap (λ (ys : List Float). bracket_of ys r) h
+
+  pub radius_within : fits binary64 r ≡ true → (b.lower ≤ b.upper) × (b.upper ≤ 19)
+  radius_within d = let p = subst (Placed 19 r) (sym of_radius) (placed_radius r (subst T (sym d) tt)) in (p.order, p.within)
+
+-- ks: the axis's knots, b: the radius's bracket
+module _ (f : Rows) (c : Centre) (r : Float) (b : Bracket) (e : b ≡ bracket_of radius_knots r) (ks : List Float) where
+  pub axis_X : ks ≡ centre_knots X → lookup_of (λ (i : ℕ). f (0 + i)) (bracket_of ks c.x) b ≡ response_x f c r
   unfolding response_x
-  axis_X = ap (λ (v : Bracket). channels n (λ (k : ℕ). lookup_of (place_rows store base n k) (bracket_of (tabulate (steps 34) 35) c.x) v) ++ drop n old) e
+  axis_X h = rw (h, e) (ap (λ (g : ℕ → Float). lookup_of g (bracket_of (centre_knots X) c.x) (bracket_of radius_knots r)) (fun_ext (λ (i : ℕ). ap f (zero-add i))))
 
-  -- a table that begins at row m
-  rows_from : (m from k : ℕ) → from ≡ base + m * n → ◌≡◌ {A = ℕ → Float} (λ (i : ℕ). get_or store (from + (i * n + k)) nan) (λ (i : ℕ). place_rows store base n k (m + i))
-  rows_from m from k h = fun_ext (λ (i : ℕ). let j : from + (i * n + k) ≡ base + ((m + i) * n + k) = omega arith in ap (λ (a : ℕ). get_or store a nan) j)
-
-  from_row : (m from : ℕ) (a : Bracket) → from ≡ base + m * n → channels n (λ (k : ℕ). lookup_of (λ (i : ℕ). get_or store (from + (i * n + k)) nan) a b) ++ drop n old ≡ channels n (λ (k : ℕ). lookup_of (λ (i : ℕ). place_rows store base n k (m + i)) a (bracket_of radius_knots r)) ++ drop n old
-  from_row m from a h =
-      ap (λ (g : ℕ → ℕ → Float). channels n (λ (k : ℕ). lookup_of (g k) a b) ++ drop n old) (fun_ext (λ (k : ℕ). rows_from m from k h))
-      ∙ ap (λ (v : Bracket). channels n (λ (k : ℕ). lookup_of (λ (i : ℕ). place_rows store base n k (m + i)) a v) ++ drop n old) e
-
-  pub axis_Y : channels n (λ (k : ℕ). lookup_of (λ (i : ℕ). get_or store (base + 700 * n + (i * n + k)) nan) (bracket_of (tabulate (steps 34) 35) c.y) b) ++ drop n old ≡ channels n (λ (k : ℕ). response_y (place_rows store base n k) c r) ++ drop n old
+  pub axis_Y : ks ≡ centre_knots Y → lookup_of (λ (i : ℕ). f (700 + i)) (bracket_of ks c.y) b ≡ response_y f c r
   unfolding response_y
-  axis_Y = from_row 700 (base + 700 * n) (bracket_of (tabulate (steps 34) 35) c.y) refl
+  axis_Y h = rw (h, e)
 
-  pub axis_Z : (deep : Bool) → deep ≡ true → channels n (λ (k : ℕ). lookup_of (λ (i : ℕ). get_or store (base + 1400 * n + (i * n + k)) nan) (bracket_of (tabulate (steps 3) 4) c.z) b) ++ drop n old ≡ cond deep (channels n (λ (k : ℕ). response_z (place_rows store base n k) deep c r) ++ drop n old) old
+  pub axis_Z : (deep : Bool) → deep ≡ true → ks ≡ centre_knots Z → lookup_of (λ (i : ℕ). f (1400 + i)) (bracket_of ks c.z) b ≡ response_z f deep c r
   unfolding response_z
-  axis_Z true h = from_row 1400 (base + 1400 * n) (bracket_of (tabulate (steps 3) 4) c.z) refl
-  axis_Z false h = absurd (true≢false (sym h))
+  axis_Z deep t h = rw (t, h, e)
+
+pub response_flat : (f : Rows) (deep : Bool) (c : Centre) (r : Float) → deep ≡ false → one64 ≡ response_z f deep c r
+unfolding response_z
+response_flat f deep c r e = rw e

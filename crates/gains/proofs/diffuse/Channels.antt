@@ -5,8 +5,8 @@ use mathlib.Core.List.{List, [], ◌∷◌, ◌++◌}
 use native.Mathlib.Nat.{add-zero}
 use native.Mathlib.Omega.{arith}
 use lib.Ieee.{Float}
-use lib.ListN.{get_or, drop, get_or-append}
-use lib.Seq.{get_or-drop, drop_at}
+use lib.ListN.{get_or, get_or-append}
+use lib.Seq.{get_or-drop}
 use Rattle.gains.specs.Lookup.{channels}
 use Rattle.gains.proofs.lookup.Listing.{length_listed, get_or_listed}
 use Rattle.gains.proofs.lookup.Writing.{Written}
@@ -21,10 +21,6 @@ channels_cong (suc n) f g h =
 -- the entry at k
 pub get_or_channels : (n : ℕ) (f : ℕ → Float) (rest : List Float) (k : ℕ) (d : Float) → k < n → get_or (channels n f ++ rest) k d ≡ f k
 get_or_channels n f rest k d h = get_or-append (channels n f) rest d k (rw (length_listed f n) h) ∙ get_or_listed f n k d h
-
--- behind them
-pub drop_channels : (n : ℕ) (f : ℕ → Float) (rest : List Float) → drop n (channels n f ++ rest) ≡ rest
-drop_channels n f rest = drop_at (channels n f) rest n (length_listed f n)
 
 -- where a loop writes next, the entry is as it was
 pub written_reads : (F : ℕ → Float) (old out : List Float) (k : ℕ) (d : Float) → Written F old out k → get_or out k d ≡ get_or old k d

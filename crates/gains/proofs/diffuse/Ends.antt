@@ -1,63 +1,52 @@
--- Each channel with the end response of the nearest wall, by the wall. Assumes nothing.
+-- The response at the nearest wall, by the wall. Assumes nothing.
 use Prim.Native.Nat.{ℕ, ◌+◌, ◌*◌, ◌<◌}
-use mathlib.Core.Path.{◌≡◌, sym, ap, ◌∙◌}
-use mathlib.Core.Bool.{Bool, true, false}
-use mathlib.Core.List.{List, ◌++◌}
+use mathlib.Core.Path.{◌≡◌, ap, ◌∙◌}
+use mathlib.Core.Bool.{Bool, false, true}
+use mathlib.Core.List.{List}
+use native.Mathlib.Nat.{add-zero}
 use native.Mathlib.Omega.{arith}
+use mir.Val.{bool_byte}
 use lib.Ieee.{Float, nan}
-use lib.ListN.{get_or, drop}
+use lib.ListN.{get_or, take, drop}
+use lib.Seq.{get_or-take, get_or-drop}
 use Rattle.doubles.specs.Arithmetic.{◌⊗◌, one64}
 use Rattle.layout.specs.declared.Centre.{Centre}
 use Rattle.gains.specs.declared.Wall.{Wall}
 use Rattle.gains.specs.declared.Wall.TheVariants.{X, Y, Z}
-use Rattle.extent.specs.Kernel.{exponent_of}
-use Rattle.gains.specs.Lookup.{channels}
 use Rattle.gains.specs.Walls.{distance_of, nearest_wall}
-use Rattle.gains.specs.Diffuse.{place_rows, wall_at, ended, end_row, end_product, compensated_of, lambda_of, weight_of}
-use Rattle.gains.proofs.diffuse.Channels.{channels_cong}
+use Rattle.gains.specs.Diffuse.{place_rows, wall_at, ended, end_row, end_product, lambda_of, weight_of}
 
 -- wall and weight by way of the code
 pub weight_is : (c : Centre) (deep : Bool) (r : Float) (wall : Wall) (d w : Float) → wall ≡ nearest_wall c deep → d ≡ distance_of wall → w ≡ lambda_of d r → w ≡ weight_of c deep r
 unfolding weight_of
 weight_is c deep r wall d w p q h = h ∙ ap (λ (v : Float). lambda_of v r) (q ∙ ap distance_of p)
 
-module _ (store : List Float) (base n : ℕ) (c : Centre) (r : Float) (x y z : List Float) (wall : Wall) (w : Float) (out : List Float) where
-  -- the product of channel k
-  abbrev product : ℕ → Float
-  product k = end_product wall (place_rows store base n k) c r (get_or x k nan) (get_or y k nan) (get_or z k nan)
+-- channel k's number in row i
+at_row : (store : List Float) (base n i k : ℕ) → k < n → get_or (take n (drop (base + i * n) store)) k nan ≡ place_rows store base n k i
+at_row store base n i k h =
+    get_or-take n (drop (base + i * n) store) k nan h
+    ∙ get_or-drop (base + i * n) store k nan
+    ∙ (let e : base + i * n + k ≡ base + (i * n + k) = omega arith in ap (λ (j : ℕ). get_or store j nan) e)
 
-  abbrev pub shaped_by : List Float
-  shaped_by = channels n (λ (k : ℕ). compensated_of (get_or out k nan) (product k) w (exponent_of r)) ++ drop n out
+-- the far wall's row is the next one
+row_of : (near b : ℕ) (far : Bool) → b ≡ bool_byte far → near + b ≡ end_row near far
+row_of near b true e = rw e
+row_of near b false e = rw e (add-zero near)
 
-  -- the end response at u, its numbers from `ends` on, with the responses a and b
-  abbrev end_at : ℕ → Float → Float → Bool → List Float → List Float → ℕ → Float
-  end_at ends u center height a b k = ended (get_or store (ends + k) nan) u center height r ⊗ get_or a k nan ⊗ get_or b k nan
+-- v: row i of the place
+module _ (store : List Float) (base n k : ℕ) (h : k < n) (v : List Float) where
+  at_place : (i : ℕ) → v ≡ take n (drop (base + i * n) store) → get_or v k nan ≡ place_rows store base n k i
+  at_place i e = ap (λ (l : List Float). get_or l k nan) e ∙ at_row store base n i k h
 
-  abbrev pub ended_by : ℕ → Float → Float → Bool → List Float → List Float → List Float
-  ended_by ends u center height a b = channels n (λ (k : ℕ). compensated_of (get_or out k nan) (end_at ends u center height a b k) w (exponent_of r)) ++ drop n out
+  module _ (c : Centre) (r x y z : Float) (wall : Wall) where
+    pub by_X : (far : Bool) (d u : Float) (b : ℕ) → wall ≡ X far d → b ≡ bool_byte far → v ≡ take n (drop (base + (1480 + b) * n) store) → u ≡ wall_at far → ended (get_or v k nan) u c.x false r ⊗ y ⊗ z ≡ end_product wall (place_rows store base n k) c r x y z
+    unfolding end_product
+    by_X far d u b p t e q = rw (p, at_place (1480 + b) e, row_of 1480 b far t, q)
 
-  -- the numbers are those of a row
-  by_row : (row ends : ℕ) (u center : Float) (height : Bool) (a b : List Float) → ends ≡ base + row * n → ((k : ℕ) → product k ≡ ended (place_rows store base n k row) u center height r ⊗ get_or a k nan ⊗ get_or b k nan) → ended_by ends u center height a b ≡ shaped_by
-  by_row row ends u center height a b e h =
-      ap (λ (l : List Float). l ++ drop n out)
-      (channels_cong n (λ (k : ℕ). compensated_of (get_or out k nan) (end_at ends u center height a b k) w (exponent_of r)) (λ (k : ℕ). compensated_of (get_or out k nan) (product k) w (exponent_of r))
-      (λ (k : ℕ) (l : k < n).
-      let i : ends + k ≡ base + (row * n + k) = omega arith in
-      ap (λ (v : Float). compensated_of (get_or out k nan) v w (exponent_of r)) (ap (λ (j : ℕ). ended (get_or store j nan) u center height r ⊗ get_or a k nan ⊗ get_or b k nan) i ∙ sym (h k))))
+    pub by_Y : (far : Bool) (d u : Float) (b : ℕ) → wall ≡ Y far d → b ≡ bool_byte far → v ≡ take n (drop (base + (1482 + b) * n) store) → u ≡ wall_at far → ended (get_or v k nan) u c.y false r ⊗ x ⊗ z ≡ end_product wall (place_rows store base n k) c r x y z
+    unfolding end_product
+    by_Y far d u b p t e q = rw (p, at_place (1482 + b) e, row_of 1482 b far t, q)
 
-  pub by_X : (far : Bool) (d : Float) (ends : ℕ) (u : Float) → wall ≡ X far d → ends ≡ base + end_row 1480 far * n → u ≡ wall_at far → ended_by ends u c.x false y z ≡ shaped_by
-  unfolding end_product
-  by_X far d ends u p e q =
-      ap (λ (v : Float). ended_by ends v c.x false y z) q
-      ∙ by_row (end_row 1480 far) ends (wall_at far) c.x false y z e (λ (k : ℕ). ap (λ (v : Wall). end_product v (place_rows store base n k) c r (get_or x k nan) (get_or y k nan) (get_or z k nan)) p)
-
-  pub by_Y : (far : Bool) (d : Float) (ends : ℕ) (u : Float) → wall ≡ Y far d → ends ≡ base + end_row 1482 far * n → u ≡ wall_at far → ended_by ends u c.y false x z ≡ shaped_by
-  unfolding end_product
-  by_Y far d ends u p e q =
-      ap (λ (v : Float). ended_by ends v c.y false x z) q
-      ∙ by_row (end_row 1482 far) ends (wall_at far) c.y false x z e (λ (k : ℕ). ap (λ (v : Wall). end_product v (place_rows store base n k) c r (get_or x k nan) (get_or y k nan) (get_or z k nan)) p)
-
-  pub by_Z : (d : Float) (ends : ℕ) → wall ≡ Z d → ends ≡ base + 1485 * n → ended_by ends one64 c.z true x y ≡ shaped_by
-  unfolding end_product
-  by_Z d ends p e =
-      by_row 1485 ends one64 c.z true x y e (λ (k : ℕ). ap (λ (v : Wall). end_product v (place_rows store base n k) c r (get_or x k nan) (get_or y k nan) (get_or z k nan)) p)
+    pub by_Z : (d : Float) → wall ≡ Z d → v ≡ take n (drop (base + 1485 * n) store) → ended (get_or v k nan) one64 c.z true r ⊗ x ⊗ y ≡ end_product wall (place_rows store base n k) c r x y z
+    unfolding end_product
+    by_Z d p e = rw (p, at_place 1485 e)

@@ -7,14 +7,12 @@ use mathlib.Core.List.{List, ◌++◌}
 use native.Mathlib.Numerals.{add-one}
 use native.Mathlib.Omega.{arith}
 use lib.Ieee.{Float, nan, lt}
-use lib.ListN.{length, get_or, set, drop}
+use lib.ListN.{length, get_or, set, get_or-append}
 use lib.Seq.{get_or-set_same, get_or-set_other}
 use Rattle.doubles.specs.Arithmetic.{◌⊘◌, zero64}
 use Rattle.doubles.proofs.Exponents.{split}
 use Rattle.approximations.specs.Exp2.{exp2_of}
 use Rattle.approximations.specs.Log2.{log2_of}
-use Rattle.approximations.specs.Powers.{map_first}
-use Rattle.approximations.proofs.FirstMapped.{first_mapped}
 use Rattle.gains.specs.Lookup.{channels}
 use Rattle.gains.specs.Steps.Gathered.{above_before, Gathered, scattered}
 use Rattle.gains.proofs.diffuse.Channels.{channels_cong}
@@ -86,17 +84,17 @@ module _ (fields : List Float) where
             (split j k)
 
 -- ---- the powers of what was gathered, put back
-pub powers_back : (fields l p out : List Float) (n m : ℕ) (e : Float) → n ≤ length l → m ≡ above_before fields n → Gathered (λ (x : Float). log2_of x ⊘ e) fields n l → p ≡ map_first m exp2_of l
-    → out ≡ channels n (scattered fields p) ++ drop n fields → out ≡ channels n (λ (k : ℕ). power_of (get_or fields k nan) e) ++ drop n fields
-powers_back fields l p out n m e room c g q r =
-    r ∙ ap (λ (xs : List Float). xs ++ drop n fields) (channels_cong n (scattered fields p) (λ (k : ℕ). power_of (get_or fields k nan) e) (λ k h. one k h (lt zero64 (get_or fields k nan)) refl))
+pub powers_back : (fields l p rest out : List Float) (m : ℕ) (e : Float) → length fields ≤ length l → m ≡ above_before fields (length fields) → Gathered (λ (x : Float). log2_of x ⊘ e) fields (length fields) l → length p ≡ m → ((j : ℕ) → j < m → get_or p j nan ≡ exp2_of (get_or l j nan))
+    → out ≡ channels (length fields) (scattered fields (p ++ rest)) → out ≡ channels (length fields) (λ (k : ℕ). power_of (get_or fields k nan) e)
+powers_back fields l p rest out m e room c g longs q r =
+    r ∙ channels_cong (length fields) (scattered fields (p ++ rest)) (λ (k : ℕ). power_of (get_or fields k nan) e) (λ k h. one k h (lt zero64 (get_or fields k nan)) refl)
   where
-    one : (k : ℕ) → k < n → (b : Bool) → lt zero64 (get_or fields k nan) ≡ b → cond b (get_or p (above_before fields k) nan) zero64 ≡ cond b (exp2_of (log2_of (get_or fields k nan) ⊘ e)) zero64
+    one : (k : ℕ) → k < length fields → (b : Bool) → lt zero64 (get_or fields k nan) ≡ b → cond b (get_or (p ++ rest) (above_before fields k) nan) zero64 ≡ cond b (exp2_of (log2_of (get_or fields k nan) ⊘ e)) zero64
     one k h false t = refl
     one k h true t =
-        let s = above_less fields k n h t in
-        let i = above_most fields k in
-        ap (λ (z : List Float). get_or z (above_before fields k) nan) q ∙ first_mapped exp2_of m (above_before fields k) l nan (omega arith) (omega arith) ∙ ap exp2_of (g.at k h t)
+        let j = above_before fields k in
+        let less : j < m = let s = above_less fields k (length fields) h t in omega arith in
+        get_or-append p rest nan j (omega arith) ∙ q j less ∙ ap exp2_of (g.at k h t)
 
 -- ---- what is put back, by the test
 pub scattered_some : (fields l : List Float) (k m : ℕ) → m ≡ above_before fields k → lt zero64 (get_or fields k nan) ≡ true → get_or l m nan ≡ scattered fields l k

@@ -1,13 +1,10 @@
 -- The branches of `normalize` and of `mix` are the cases of their definitions. Assumes nothing.
-use Prim.Native.Nat.{ℕ}
-use mathlib.Core.Path.{◌≡◌, refl, ap}
+use mathlib.Core.Path.{◌≡◌}
 use mathlib.Core.Bool.{Bool, true, false, ◌&&◌, cond}
-use mathlib.Core.List.{List, [], ◌∷◌, ◌++◌, map}
-use native.Mathlib.Omega.{arith}
+use mathlib.Core.List.{List, map}
 use lib.Ieee.{Float, binary64, lt}
 use lib.Ieee.Scale.{finite}
-use lib.ListN.{length, take, drop, length-map}
-use lib.Seq.{take_at, drop_at}
+use lib.ListN.{length, length-map}
 use Rattle.doubles.specs.Arithmetic.{◌⊕◌, ◌⊗◌, ◌⊘◌, dec, zero64}
 use Rattle.doubles.specs.Norm.{sum_squares}
 use Rattle.doubles.specs.Root.{sqrt_of}
@@ -26,13 +23,6 @@ module _ (v : List Float) (s : Float) (b : Bool) (e : s ≡ sum_squares v) (f : 
   unfolding normalized_of
   normalized_no h = rw (← e, ← f, h)
 
--- a number for each of two lists of one length
-pub same_number : (z : Float) (xs ys : List Float) → length xs ≡ length ys → map (λ (x : Float). z) xs ≡ map (λ (x : Float). z) ys
-same_number z [] [] h = refl
-same_number z [] (y ∷ ys) h = absurd (omega arith)
-same_number z (x ∷ xs) [] h = absurd (omega arith)
-same_number z (x ∷ xs) (y ∷ ys) h = ap (λ (l : List Float). z ∷ l) (same_number z xs ys (omega arith))
-
 pub normalized_length : (v : List Float) → length (normalized_of v) ≡ length v
 unfolding normalized_of
 normalized_length v = go (finite (sum_squares v) && lt zero64 (sum_squares v)) _ _
@@ -40,10 +30,6 @@ normalized_length v = go (finite (sum_squares v) && lt zero64 (sum_squares v)) _
     go : (b : Bool) (f g : Float → Float) → length (cond b (map f v) (map g v)) ≡ length v
     go true f g = length-map v f
     go false f g = length-map v g
-
--- a list whose first n entries are z, and then made by F
-pub written_then : (F : List Float → List Float) (n : ℕ) (z base out : List Float) → length z ≡ n → out ≡ z ++ drop n base → F (take n out) ++ drop n out ≡ F z ++ drop n base
-written_then F n z base out h e = rw (e, take_at z (drop n base) n h, drop_at z (drop n base) n h)
 
 -- ---- the three blends
 module _ (w : Blend) (points field : List Float) where

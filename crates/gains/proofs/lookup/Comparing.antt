@@ -1,12 +1,12 @@
 -- The order of doubles, some of them finite with a clear sign. Assumes nothing.
 use Prim.Native.Nat.{ℕ, ◌*◌, ◌<◌}
-use mathlib.Core.Path.{◌≡◌, refl, sym, ap, ◌∙◌}
-use mathlib.Core.Bool.{Bool, true, false, not, ◌||◌, ◌&&◌, true≢false}
+use mathlib.Core.Path.{◌≡◌, refl, sym, ◌∙◌}
+use mathlib.Core.Bool.{Bool, true, false, ◌||◌, ◌&&◌, true≢false}
 use native.Mathlib.Nat.{le_of_eq, lt_trans, lt_of_le_of_lt, lt_of_lt_of_le, mul_right_comm, mul-lt-mul_of_pos_right, lt_of_mul-lt-mul_right}
 use native.Mathlib.Omega.{arith}
 use borrow.Author.Tests.{lt-ltb, le-ltb, ltb-true, ne_eqb}
 use lib.Dec.{T, ltb, eqb}
-use lib.Ieee.{Float, nan, inf, fin, up, down, lt, le, eq, is_nan}
+use lib.Ieee.{Float, nan, inf, fin, up, down, lt, le, eq}
 use lib.Ieee.Fits.{down_pos}
 use lib.Ieee.Scale.{finite}
 use Rattle.doubles.specs.Arithmetic.{zero64}
@@ -82,10 +82,6 @@ between_plain (fin false m e) (fin false n d) (inf false) p q h k = absurd (true
 between_plain (fin false m e) (fin false n d) (fin true o g) p q h k = absurd (true≢false (sym h))
 between_plain (fin false m e) (fin false n d) (fin false o g) p q h k = tt
 
--- a test of a call's result is a test of what the call ensures
-pub lt_same : {x y : Float} {b : Bool} (v : Float) → x ≡ y → lt x v ≡ b → lt y v ≡ b
-lt_same v e h = ap (λ (z : Float). lt z v) (sym e) ∙ h
-
 -- what is below is at most
 pub le_of_lt : (x y : Float) → lt x y ≡ true → T (le x y)
 unfolding le
@@ -97,13 +93,6 @@ unfolding lt le eq
 no_less nan = refl
 no_less (inf s) = refl
 no_less (fin s m e) = refl
-
--- what is from x up is no NaN
-pub over_no_nan : (x y : Float) → le x y ≡ true → T (not (is_nan y))
-unfolding is_nan
-over_no_nan x nan h = absurd (true≢false (sym h ∙ no_less x))
-over_no_nan x (inf s) h = tt
-over_no_nan x (fin s m e) h = tt
 
 pub both : (a b : Bool) → (a && b) ≡ true → (a ≡ true) × (b ≡ true)
 both true b h = (refl, h)

@@ -1,15 +1,16 @@
--- Lists made by `listed`, and how many of a list are below a number. Assumes nothing.
+-- Lists made by `tabulate`, and how many of a list, from the front, are below a number. Assumes nothing.
 use Prim.Native.Nat.{ℕ, zero, suc, ◌+◌, ◌<◌, ◌≤◌}
 use mathlib.Core.Path.{◌≡◌, refl, sym, ap, ◌∙◌}
 use mathlib.Core.Logic.{⊎_elim}
-use mathlib.Core.Bool.{Bool, true, false, cond}
+use mathlib.Core.Bool.{true, false, cond, true≢false}
 use mathlib.Core.List.{List, [], ◌∷◌, ◌++◌}
 use native.Mathlib.Nat.{eq-or-lt_of_le, le_of_suc-le-suc}
-use native.Mathlib.Numerals.{one-add}
 use native.Mathlib.Omega.{arith}
 use lib.Ieee.{Float, nan, inf, fin, lt}
 use lib.ListN.{length, get_or, length-append, get_or-append}
 use lib.Seq.{get_or-append_seam}
+use Rattle.std.specs.List.{prefix_len}
+use Rattle.std.proofs.lemmas.List.Sums.{prefix_len_passes, prefix_len_stops}
 use Rattle.gains.specs.Lookup.{tabulate}
 use Rattle.field.specs.Responses.{count_below}
 
@@ -29,42 +30,23 @@ get_or_listed f (suc n) i d h =
 
 -- ---- how many are below u
 
--- k, where those before k are below u and k is not
-pub below_is : (u : Float) (xs : List Float) (k : ℕ) → k < length xs → ((i : ℕ) → i < k → lt (get_or xs i nan) u ≡ true) → lt (get_or xs k nan) u ≡ false → count_below u xs ≡ k
-below_is u [] k h p e = absurd (omega arith)
-below_is u (x ∷ xs) zero h p e = rw e
-below_is u (x ∷ xs) (suc k) h p e =
-    let q : lt x u ≡ true = p 0 (omega arith) in
-    rw (q, one-add) (ap suc (below_is u xs k (le_of_suc-le-suc h) (λ (i : ℕ) (l : i < k). p (suc i) (omega arith)) e))
+pub below_prefix : (u : Float) (xs : List Float) → prefix_len (λ x. lt x u) xs ≡ count_below u xs
+below_prefix u [] = refl
+below_prefix u (x ∷ xs) = ap (λ n. cond (lt x u) (1 + n) 0) (below_prefix u xs)
 
 -- each before it is below u
 pub below_before : (u : Float) (xs : List Float) (i : ℕ) → i < count_below u xs → lt (get_or xs i nan) u ≡ true
-below_before u [] i h = absurd (omega arith)
-below_before u (x ∷ xs) i h = go (lt x u) refl (below_before u xs) i h
-  where
-    go : (b : Bool) → lt x u ≡ b → ((i : ℕ) → i < count_below u xs → lt (get_or xs i nan) u ≡ true) → (i : ℕ) → i < cond b (1 + count_below u xs) 0 → lt (get_or (x ∷ xs) i nan) u ≡ true
-    go true e p zero h = e
-    go true e p (suc i) h = p i (omega arith)
-    go false e p i h = absurd (omega arith)
+below_before u xs i h = prefix_len_passes (λ x. lt x u) xs i nan (rw (below_prefix u xs) h)
 
 -- and the one at it is not
 pub below_at : (u : Float) (xs : List Float) → count_below u xs < length xs → lt (get_or xs (count_below u xs) nan) u ≡ false
-below_at u [] h = absurd (omega arith)
-below_at u (x ∷ xs) h = go (lt x u) refl (below_at u xs) h
-  where
-    go : (b : Bool) → lt x u ≡ b → (count_below u xs < length xs → lt (get_or xs (count_below u xs) nan) u ≡ false) → cond b (1 + count_below u xs) 0 < suc (length xs) → lt (get_or (x ∷ xs) (cond b (1 + count_below u xs) 0) nan) u ≡ false
-    go true e p h = rw one-add (p (omega arith))
-    go false e p h = e
+below_at u xs h = rw (← below_prefix u xs) (prefix_len_stops (λ x. lt x u) xs nan (rw (below_prefix u xs) h))
 
 -- at most k, where k is not below u
-pub below_most : (u : Float) (xs : List Float) (k : ℕ) → k < length xs → lt (get_or xs k nan) u ≡ false → count_below u xs ≤ k
-below_most u [] k h e = absurd (omega arith)
-below_most u (x ∷ xs) zero h e = rw e (omega arith)
-below_most u (x ∷ xs) (suc k) h e = go (lt x u) (below_most u xs k (omega arith) e)
-  where
-    go : (b : Bool) → count_below u xs ≤ k → cond b (1 + count_below u xs) 0 ≤ suc k
-    go true l = omega arith
-    go false l = omega arith
+pub below_most : (u : Float) (xs : List Float) (k : ℕ) → lt (get_or xs k nan) u ≡ false → count_below u xs ≤ k
+below_most u xs k e =
+    let no : k < count_below u xs → ⊥ = λ h. true≢false (sym (below_before u xs k h) ∙ e) in
+    omega arith
 
 -- some, where the first is
 pub below_some : (u : Float) (xs : List Float) → lt (get_or xs 0 nan) u ≡ true → 0 < length xs → 1 ≤ count_below u xs

@@ -1,22 +1,30 @@
--- `extent::radius::extent_no` meets its contract: a component from 0 to 1 is finite, and each question is asked after a yes to those before it. Assumes nothing.
+-- `extent::radius::extent_no` meets its contract: each question is asked after a yes to those before it. Assumes nothing.
 use mathlib.Core.Path.{sym, ◌∙◌}
-use lib.Ieee.{of_bits}
-use Rattle.extent.proofs.Readings.{extent_7, extent_18, extent_19, extent_none}
-use Rattle.extent.proofs.radius.Ranges.{component_is}
+use Rattle.std.proofs.lemmas.Result.{err_from_is_err_and}
+use Rattle.extent.specs.Extent.{question7, question18}
+use Rattle.extent.proofs.Readings.{ask_ok, ask_err, extent_7, extent_18, extent_19}
 use Rattle.extent.proofs.radius.extent_no.Goals as goal
 
-pub returns-then-not-is_between : goal.returns-then-not-is_between
-unfolding of_bits
-returns-then-not-is_between c = extent_7 c.args.e (sym (c.is_between.ensures ∙ component_is c.args.e.x) ∙ c.if-not-is_between.true)
+pub returns-in_err-ask : goal.returns-in_err-ask
+returns-in_err-ask c =
+    let e = c.args.e in
+    let p = err_from_is_err_and c.from_residual.result c.from_residual.ensures.1 in
+    let h = ask_err (tt {0}) (question7 e) _ _ (sym c.ask.ensures ∙ c.in_err-ask.was) in
+    let k = extent_7 (tt {0}) e h.0 in
+    cc
 
-pub returns-then-not-is_between-2 : goal.returns-then-not-is_between-2
-unfolding of_bits
-returns-then-not-is_between-2 c = extent_18 c.args.e (sym (c.is_between.ensures ∙ component_is c.args.e.x) ∙ c.if-not-is_between.false) (sym (c.is_between-2.ensures ∙ component_is c.args.e.y) ∙ c.if-not-is_between-2.true)
-
-pub returns-then-not-is_between-3 : goal.returns-then-not-is_between-3
-unfolding of_bits
-returns-then-not-is_between-3 c = extent_19 c.args.e (sym (c.is_between.ensures ∙ component_is c.args.e.x) ∙ c.if-not-is_between.false) (sym (c.is_between-2.ensures ∙ component_is c.args.e.y) ∙ c.if-not-is_between-2.false) (sym (c.is_between-3.ensures ∙ component_is c.args.e.z) ∙ c.if-not-is_between-3.true)
+pub returns-in_err-ask-2 : goal.returns-in_err-ask-2
+returns-in_err-ask-2 c =
+    let e = c.args.e in
+    let x = ask_ok (tt {0}) (question7 e) _ _ (sym c.ask.ensures ∙ c.in_ok-ask.was) in
+    let p = err_from_is_err_and c.from_residual-in_err-ask-2.result c.from_residual-in_err-ask-2.ensures.1 in
+    let h = ask_err (tt {0}) (question18 e) _ _ (sym c.ask-2.ensures ∙ c.in_err-ask-2.was) in
+    let k = extent_18 (tt {0}) e x h.0 in
+    cc
 
 pub returns : goal.returns
-unfolding of_bits
-returns c = extent_none c.args.e (sym (c.is_between.ensures ∙ component_is c.args.e.x) ∙ c.if-not-is_between.false) (sym (c.is_between-2.ensures ∙ component_is c.args.e.y) ∙ c.if-not-is_between-2.false) (sym (c.is_between-3.ensures ∙ component_is c.args.e.z) ∙ c.if-not-is_between-3.false)
+returns c =
+    let e = c.args.e in
+    let x = ask_ok (tt {0}) (question7 e) _ _ (sym c.ask.ensures ∙ c.in_ok-ask.was) in
+    let y = ask_ok (tt {0}) (question18 e) _ _ (sym c.ask-2.ensures ∙ c.in_ok-ask-2.was) in
+    c.ask-3.ensures ∙ extent_19 (tt {0}) e x y

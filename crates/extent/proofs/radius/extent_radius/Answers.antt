@@ -1,34 +1,27 @@
--- `extent::radius::extent_radius` meets its contract, by `proofs/radius/Transfer.antt`. Assumes nothing.
-use mathlib.Core.Path.{sym, ◌∙◌}
+-- Knot by knot.
+use mathlib.Core.Path.{◌≡◌, sym, ◌∙◌}
+use native.Mathlib.Omega.{arith}
 use lib.Ieee.{of_bits, round}
-use Rattle.extent.proofs.radius.Transfer.{clamped, first_is, second_is, third_is, fourth_is, fifth_is, last_is}
+use Rattle.extent.proofs.radius.Transfer.{clamped, here, past, past_first}
 use Rattle.extent.proofs.radius.extent_radius.Goals as goal
 
 pub returns-then-s : goal.returns-then-s
 unfolding of_bits round
-returns-then-s c = sym (first_is _ c.if-s.true) ∙ (clamped _ _ c.clamp-s.ensures)
+returns-then-s c = rw (← clamped _ _ c.clamp-s.ensures, c.if-s.true)
 
-pub returns-then-s-2 : goal.returns-then-s-2
+pub returns-then-s-i : goal.returns-then-s-i
 unfolding of_bits round
-returns-then-s-2 c =
-    c.between.ensures ∙ sym (second_is _ c.if-s.false c.if-s-2.true) ∙ (clamped _ _ c.clamp-s.ensures)
-
-pub returns-then-s-3 : goal.returns-then-s-3
-unfolding of_bits round
-returns-then-s-3 c =
-    c.between-then-s-3.ensures ∙ sym (third_is _ c.if-s.false c.if-s-2.false c.if-s-3.true) ∙ (clamped _ _ c.clamp-s.ensures)
-
-pub returns-then-s-4 : goal.returns-then-s-4
-unfolding of_bits round
-returns-then-s-4 c =
-    c.between-then-s-4.ensures ∙ sym (fourth_is _ c.if-s.false c.if-s-2.false c.if-s-3.false c.if-s-4.true) ∙ (clamped _ _ c.clamp-s.ensures)
-
-pub returns-then-s-5 : goal.returns-then-s-5
-unfolding of_bits round
-returns-then-s-5 c =
-    c.between-then-s-5.ensures ∙ sym (fifth_is _ c.if-s.false c.if-s-2.false c.if-s-3.false c.if-s-4.false c.if-s-5.true) ∙ (clamped _ _ c.clamp-s.ensures)
+returns-then-s-i c =
+    let s = c.clamp-s.result in
+    c.between.ensures ∙ sym (here s c.loop-i.i c.loop-i-test.true c.if-s-i.true) ∙ c.loop-i.invariant ∙ past_first s c.if-s.false ∙ clamped _ _ c.clamp-s.ensures
 
 pub returns : goal.returns
 unfolding of_bits round
 returns c =
-    sym (last_is _ c.if-s.false c.if-s-2.false c.if-s-3.false c.if-s-4.false c.if-s-5.false) ∙ (clamped _ _ c.clamp-s.ensures)
+    let s = c.clamp-s.result in
+    let i : c.loop-i.i ≡ 4 = omega arith in
+    rw i at c.loop-i.invariant ∙ past_first s c.if-s.false ∙ clamped _ _ c.clamp-s.ensures
+
+pub loop-i-preserved : goal.loop-i-preserved
+unfolding of_bits round
+loop-i-preserved c = sym (past c.clamp-s.result c.loop-i.i c.loop-i-test.true c.if-s-i.false) ∙ c.loop-i.invariant

@@ -1,6 +1,6 @@
 -- `extent::radius::quantise` meets its contract, by `proofs/radius/Nearest.antt`. Assumes nothing.
-use mathlib.Core.Path.{◌≡◌, sym, ◌∙◌, subst}
-use native.Mathlib.Omega.{arith}
+use mathlib.Core.Path.{◌≡◌, sym, ap, ◌∙◌, subst}
+use Prim.Native.Nat.{ℕ, min}
 use mathlib.Core.Bool.{true}
 use lib.Dec.{T}
 use lib.Ieee.{round, of_int, of_bits}
@@ -26,16 +26,7 @@ pub float_to_bits-q : goal.float_to_bits-q
 unfolding of_bits round of_int
 float_to_bits-q c = (shows c).0
 
-pub returns-then-q-lt32767 : goal.returns-then-q-lt32767
+pub returns : goal.returns
 unfolding of_bits round of_int
-returns-then-q-lt32767 c =
-    let q = (shows c.before).1 in
-    let i = quantised_in c.args.v (inside c.before) in
-    omega arith
-
-pub returns-else-q-lt32767 : goal.returns-else-q-lt32767
-unfolding of_bits round of_int
-returns-else-q-lt32767 c =
-    let q = (shows c.before).1 in
-    let i = quantised_in c.args.v (inside c.before) in
-    omega arith
+returns c =
+    c.min.ensures ∙ ap (λ (q : ℕ). min q 32767) (shows c.before).1 ∙ sym (quantised_in c.args.v (inside c.before))

@@ -1,25 +1,19 @@
--- `field::columns::first_same` meets its contract. The invariant: the first one of the channels left is the first one of all. Assumes nothing.
-use mathlib.Core.Path.{refl, sym, ◌∙◌}
+-- What is found is what `find` finds in the range.
+use mathlib.Core.Path.{refl, sym, ap, ◌∙◌}
+use Prim.Native.Nat.{ℕ}
 use native.Mathlib.Nat.{sub-zero}
-use native.Mathlib.Omega.{arith}
 use borrow.Author.Rules.{rules}
-use Rattle.field.proofs.SameColumns.{first_done, first_more}
+use borrow.Author.Tests.{tests}
+use Rattle.std.specs.Prelude.{Option, unwrap_or}
+use Rattle.std.proofs.lemmas.Iterator.{YieldsList-from_range}
+use Rattle.std.proofs.lemmas.Iterator.Search.{find_from_yields_List}
+use Rattle.std.proofs.lemmas.Iterator.Adapters.{option_map_id}
+use Rattle.field.specs.Steps.Columns.{same_column}
 use Rattle.field.proofs.columns.first_same.Goals as goal
-
-pub returns-then-same_column : goal.returns-then-same_column
-returns-then-same_column c =
-    let a = c.args in
-    sym (c.loop-j.invariant.1 ∙ first_more a.responses.now a.samples a.k c.loop-j.j (omega arith) ∙ rw (← c.same_column.ensures, c.if-same_column.true) refl)
-
-pub loop-j-preserved : goal.loop-j-preserved
-loop-j-preserved c =
-    let a = c.args in
-    (omega arith, c.loop-j.invariant.1 ∙ first_more a.responses.now a.samples a.k c.loop-j.j (omega arith) ∙ rw (← c.same_column.ensures, c.if-same_column.false) refl)
 
 pub returns : goal.returns
 returns c =
     let a = c.args in
-    sym (c.loop-j.invariant.1 ∙ first_done a.responses.now a.samples a.k c.loop-j.j (omega arith))
-
-pub loop-j-init : goal.loop-j-init
-loop-j-init c = (search rules, rw sub-zero refl)
+    let test = λ (j : ℕ). same_column a.responses.now a.samples j a.k in
+    let e = find_from_yields_List test _ _ c.find.result c.find.ensures.ran (YieldsList-from_range 0 a.k a.k refl (sub-zero a.k)) (λ x b q k. search (rules, tests)) in
+    c.unwrap_or.ensures ∙ ap (λ (o : Option ℕ). unwrap_or o a.k) (sym (option_map_id c.find.result) ∙ e)

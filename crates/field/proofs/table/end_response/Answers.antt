@@ -1,24 +1,18 @@
--- `field::table::end_response` meets its contract: after k turns the first k numbers are written. Assumes nothing.
-use mathlib.Core.Path.{◌≡◌, refl, sym}
-use Prim.Native.Nat.{ℕ, ◌+◌, ◌*◌}
+-- The part written is the n responses at the sample.
+use Prim.Native.Nat.{ℕ, ◌+◌, ◌-◌, ◌*◌, ◌<◌}
+use mathlib.Core.Path.{◌≡◌}
 use native.Mathlib.Omega.{arith}
-use borrow.Author.Rules.{rules}
 use lib.Ieee.{nan}
-use lib.ListN.{get_or, length-set}
-use Rattle.field.proofs.Patching.{write_none, write_more}
+use lib.ListN.{get_or}
+use Rattle.std.proofs.lemmas.List.{places}
+use Rattle.field.proofs.Patching.{part_patched}
 use Rattle.field.proofs.table.end_response.Goals as goal
-
-pub loop-k-init : goal.loop-k-init
-loop-k-init c =
-    let a = c.args in
-    (search rules, sym (write_none a.from (λ (k : ℕ). get_or a.responses.now (a.sample * 24 + k) nan) a.store.now), refl)
-
-pub loop-k-preserved : goal.loop-k-preserved
-loop-k-preserved c =
-    let a = c.args in
-    (omega arith, rw c.loop-k.invariant.1 (write_more a.from c.loop-k.k (λ (k : ℕ). get_or a.responses.now (a.sample * 24 + k) nan) a.store.now), simp length-set (search rules))
 
 pub returns : goal.returns
 returns c =
-    let e : c.loop-k.k ≡ c.args.n = omega arith in
-    rw (← e) c.loop-k.invariant.1
+    let a = c.args in
+    part_patched a.from a.n (λ (i : ℕ). get_or a.responses.now (a.sample * 24 + (i - a.from)) nan) a.store.now _ c.requires.0
+    (rw c.copy_from_slice.ensures.after (grind (arith, places, c.told-responses, c.requires)))
+    (λ (i : ℕ) (h : i < a.n).
+    let e : a.from + i - a.from ≡ i = omega arith in
+    rw (c.copy_from_slice.ensures.after, e) (grind (arith, places, h)))

@@ -1,24 +1,15 @@
--- `gains::gains::sum_squares` meets its contract: after k turns the sum is that of the first k squares. Assumes nothing.
-use Prim.Native.Nat.{ℕ}
-use mathlib.Core.Path.{◌≡◌, ap, ◌∙◌}
-use native.Mathlib.Omega.{arith}
-use lib.Ieee.{binary64, nan, of_bits}
-use lib.ListN.{take}
-use Rattle.doubles.specs.Arithmetic.{zero64}
-use Rattle.doubles.specs.Norm.{sum_squares}
-use Rattle.gains.proofs.gains.Front.{fold_none, fold_more}
+-- `gains::gains::sum_squares` meets its contract: one turn of the fold adds one square. Assumes nothing.
+use Rattle.std.proofs.Common.{◌∙◌, Float, rules}
+use Rattle.std.proofs.lemmas.Iterator.{YieldsList-from_slice}
+use Rattle.std.proofs.lemmas.Iterator.Consumers.{fold_from_yields_List}
+use lib.Ieee.{binary64, of_bits}
+use Rattle.doubles.specs.Arithmetic.{◌⊕◌, ◌⊗◌, zero64}
+use Rattle.gains.proofs.gains.Front.{squares_folded}
 use Rattle.gains.proofs.gains.sum_squares.Goals as goal
 
-pub loop-k-init : goal.loop-k-init
-unfolding of_bits
-loop-k-init c = (omega arith, fold_none binary64 zero64)
-
-pub loop-k-preserved : goal.loop-k-preserved
-loop-k-preserved c =
-    let v = c.args.v.now in
-    (omega arith, rw c.loop-k.invariant.1 (fold_more binary64 zero64 v c.loop-k.k nan (omega arith)))
-
 pub returns : goal.returns
+unfolding of_bits
 returns c =
-    let e : c.loop-k.k ≡ c.args.n = omega arith in
-    c.loop-k.invariant.1 ∙ ap (λ (m : ℕ). sum_squares (take m c.args.v.now)) e
+    let v = c.args.v.now in
+    fold_from_yields_List _ (λ (s x : Float). s ⊕ x ⊗ x) zero64 c.fold.result c.fold.ensures.ran (YieldsList-from_slice v cc) (λ a x b q k. search rules)
+    ∙ squares_folded binary64 zero64 v

@@ -1,0 +1,15 @@
+-- The lists are those of `PlaceResponses`.
+use borrow.Author.Rules.{rules}
+use Rattle.field.proofs.PlaceResponses.{asked_y, left_y}
+use Rattle.field.proofs.place.Walked.responses_y.Goals as goal
+
+pub invariant_of-axis : goal.invariant_of-axis
+invariant_of-axis c =
+    let w = c.args.self.now in
+    let p = asked_y w.l w.sized.0 w.sized.1 w.sized.2 w.accepted w.at w.placed _ _ _ c.row_ys-ys.ensures c.row_starts-rows.ensures c.anchor_starts-starts.ensures in
+    record { grouped = p.0; parted = p.1 }
+
+pub returns : goal.returns
+returns c =
+    let w = c.args.self.now in
+    left_y w.l w.sized.0 w.sized.1 w.sized.2 w.accepted w.at w.placed _ _ _ c.row_ys-ys.ensures c.row_starts-rows.ensures c.anchor_starts-starts.ensures _ c.respond.ensures (search rules)
