@@ -1,7 +1,7 @@
 -- Keys stand apart in their places, and what a search for a key finds.
 use Prim.Native.Nat.{ℕ, zero, suc, ◌+◌, ◌-◌, ◌*◌, ◌%◌, ◌<◌, ◌≤◌}
 use mathlib.Core.Path.{◌≡◌, refl, sym, ap, ◌∙◌}
-use mathlib.Core.Bool.{Bool, true, false, cond, true≢false, false≢true}
+use mathlib.Core.Bool.{Bool, true, false, cond, true≢false}
 use mathlib.Core.List.{List, [], ◌∷◌, ◌++◌}
 use native.Mathlib.Omega.{arith}
 use borrow.Author.Tests.{ltb-true, ltb-false}
@@ -10,8 +10,7 @@ use lib.ListN.{length, take, drop, get_or, length-append, length-drop}
 use lib.Seq.{length-take-le, take_at, drop_at, take-append-le, take-take, drop-append-add, drop-drop, get_or-take}
 use Rattle.lists.specs.Lists.{all_same}
 use Rattle.lists.proofs.Chunks.{slice_take}
-use Rattle.cache.specs.declared.Slot.{Slot}
-use Rattle.cache.specs.declared.Slot.TheVariants.{At, Missing}
+use Rattle.std.specs.Prelude.{Some, None}
 use Rattle.cache.specs.Places.{key_at, with_key, find_from, first_places}
 use Rattle.cache.proofs.KeyCompare.{same_equal, equal_same, eight_at}
 
@@ -66,14 +65,6 @@ module _ (keys : List ℕ) (p : ℕ) (key : List ℕ) (long : length keys ≡ 12
           absurd (n (omega arith))
 
 -- ---- what a search finds
-is_at : Slot → Bool
-is_at (At p) = true
-is_at Missing = false
-
-place_in : Slot → ℕ
-place_in (At p) = p
-place_in Missing = 0
-
 pub record FoundAt (keys key : List ℕ) (p n r : ℕ) : Type 0 where
   pub index : ℕ
   pub within : index < n
@@ -94,21 +85,21 @@ module _ (keys key : List ℕ) (p : ℕ) where
   abbrev In : List ℕ → ℕ → Type 0
   In is r = (j : ℕ) × (j < length is) × (r ≡ at (get_or is j 0)) × (key_at keys r ≡ key)
 
-  found_in_lem : (is : List ℕ) (r : ℕ) → find_from keys key p is ≡ At r → In is r
-  found_in_lem [] r e = absurd (false≢true (unfold is_at in ap is_at e))
+  found_in_lem : (is : List ℕ) (r : ℕ) → find_from keys key p is ≡ Some r → In is r
+  found_in_lem [] r e = absurd (cc)
   found_in_lem (i ∷ is) r e = go (holds i) refl e (found_in_lem is r)
     where
-      go : (b : Bool) → holds i ≡ b → cond b (At (at i)) (find_from keys key p is) ≡ At r → (find_from keys key p is ≡ At r → In is r) → In (i ∷ is) r
-      go true q f w = let f' : at i ≡ r = unfold place_in in ap place_in f in (0, omega arith, sym f', rw (← f') (same_equal (key_at keys (at i)) key q))
+      go : (b : Bool) → holds i ≡ b → cond b (Some (at i)) (find_from keys key p is) ≡ Some r → (find_from keys key p is ≡ Some r → In is r) → In (i ∷ is) r
+      go true q f w = let f' : at i ≡ r = cc in (0, omega arith, sym f', rw (← f') (same_equal (key_at keys (at i)) key q))
       go false q f w = let v = w f in (suc v.0, omega arith, v.2, v.3)
 
   -- none of them does
-  found_none : (is : List ℕ) → find_from keys key p is ≡ Missing → (j : ℕ) → j < length is → key_at keys (at (get_or is j 0)) ≡ key → ⊥
+  found_none : (is : List ℕ) → find_from keys key p is ≡ None → (j : ℕ) → j < length is → key_at keys (at (get_or is j 0)) ≡ key → ⊥
   found_none [] e j h q = absurd (omega arith)
   found_none (i ∷ is) e j h q = go (holds i) refl e (found_none is) j h q
     where
-      go : (b : Bool) → holds i ≡ b → cond b (At (at i)) (find_from keys key p is) ≡ Missing → (find_from keys key p is ≡ Missing → (j : ℕ) → j < length is → key_at keys (at (get_or is j 0)) ≡ key → ⊥) → (j : ℕ) → j < suc (length is) → key_at keys (at (get_or (i ∷ is) j 0)) ≡ key → ⊥
-      go true g f w j h q = absurd (true≢false (unfold is_at in ap is_at f))
+      go : (b : Bool) → holds i ≡ b → cond b (Some (at i)) (find_from keys key p is) ≡ None → (find_from keys key p is ≡ None → (j : ℕ) → j < length is → key_at keys (at (get_or is j 0)) ≡ key → ⊥) → (j : ℕ) → j < suc (length is) → key_at keys (at (get_or (i ∷ is) j 0)) ≡ key → ⊥
+      go true g f w j h q = absurd (cc)
       go false g f w zero h q = true≢false (sym (rw q (equal_same key)) ∙ g)
       go false g f w (suc j) h q = w f j (omega arith) q
 
@@ -118,7 +109,7 @@ module _ (keys key : List ℕ) (p : ℕ) where
     count_is = length-take-le n _ few
 
     -- a place found is one of the n, and holds the key
-    pub find_place : (r : ℕ) → find_from keys key p (first_places n) ≡ At r → FoundAt keys key p n r
+    pub find_place : (r : ℕ) → find_from keys key p (first_places n) ≡ Some r → FoundAt keys key p n r
     find_place r e =
         let w = found_in_lem (first_places n) r e in
         let c = count_is in
@@ -126,5 +117,5 @@ module _ (keys key : List ℕ) (p : ℕ) where
         record { index = w.0; within = b; place = w.2 ∙ rw (places_at w.0 n b few); same = w.3 }
 
     -- where none is found, none of the n holds the key
-    pub find_none : find_from keys key p (first_places n) ≡ Missing → (i : ℕ) → i < n → key_at keys ((p + i) % 8) ≡ key → ⊥
+    pub find_none : find_from keys key p (first_places n) ≡ None → (i : ℕ) → i < n → key_at keys ((p + i) % 8) ≡ key → ⊥
     find_none e i h q = found_none (first_places n) e i (rw count_is h) (rw (places_at i n h few) q)

@@ -1,5 +1,5 @@
 -- Keys compared word by word, and the search through the places from the oldest on.
-use Prim.Native.Nat.{ℕ, zero, suc, ◌+◌, ◌%◌, ◌<◌, ◌≤◌}
+use Prim.Native.Nat.{ℕ, zero, suc, ◌+◌, ◌%◌, ◌<◌, ◌≤◌, min}
 use mathlib.Core.Path.{◌≡◌, refl, sym, ap, ap₂, ◌∙◌}
 use mathlib.Core.Bool.{Bool, true, false, ◌&&◌, cond, true≢false}
 use mathlib.Core.List.{List, [], ◌∷◌}
@@ -11,9 +11,9 @@ use lib.Dec.{eqb}
 use lib.ListN.{length, take, drop, get_or}
 use lib.Seq.{slice, take_all, get_or-drop, get_or-take}
 use Rattle.lists.specs.Lists.{all_same}
+use Rattle.lists.proofs.Takes.{take_min}
 use Rattle.lists.proofs.Loops.{slice_more, slice_done}
-use Rattle.cache.specs.declared.Slot.{Slot}
-use Rattle.cache.specs.declared.Slot.TheVariants.{At, Missing}
+use Rattle.std.specs.Prelude.{Option, Some, None}
 use Rattle.cache.specs.Places.{key_at, find_from, first_places}
 
 -- ---- equal word by word is equal
@@ -127,22 +127,21 @@ module _ (words key : List ℕ) (p : ℕ) where
     pub same : find_from words key p (drop i (first_places n)) ≡ find_from words key p (first_places n)
 
   module _ (n i : ℕ) (w : Finding n i) where
-    pub finding_here : i < n → all_same eqb (key_at words ((p + i) % 8)) key ≡ true → At ((p + i) % 8) ≡ find_from words key p (first_places n)
+    pub finding_here : i < n → all_same eqb (key_at words ((p + i) % 8)) key ≡ true → Some ((p + i) % 8) ≡ find_from words key p (first_places n)
     finding_here h q = sym (rw (places_more i n h w.few, q)) ∙ w.same
 
     pub finding_next : i < n → all_same eqb (key_at words ((p + i) % 8)) key ≡ false → Finding n (i + 1)
     finding_next h q = record { reached = omega arith; few = w.few; same = sym (rw (places_more i n h w.few, q)) ∙ w.same }
 
-    pub finding_done : n ≤ i → Missing ≡ find_from words key p (first_places n)
+    pub finding_done : n ≤ i → None ≡ find_from words key p (first_places n)
     finding_done h = sym (ap (find_from words key p) (places_done i n (omega arith))) ∙ w.same
 
--- the places from a remainder on are those from the number itself on
-pub from_remainder : (keys key : List ℕ) (p : ℕ) (is : List ℕ) → find_from keys key (p % 8) is ≡ find_from keys key p is
+-- the places from a remainder on are those from the number itself on, and there are eight at most
+from_remainder : (keys key : List ℕ) (p : ℕ) (is : List ℕ) → find_from keys key (p % 8) is ≡ find_from keys key p is
 from_remainder keys key p [] = refl
 from_remainder keys key p (i ∷ is) =
     let e : (p % 8 + i) % 8 ≡ (p + i) % 8 = omega arith in
-    ap₂ (λ (j : ℕ) (s : Slot). cond (all_same eqb (key_at keys (j)) key) (At j) s) e (from_remainder keys key p is)
+    ap₂ (λ (j : ℕ) (s : Option ℕ). cond (all_same eqb (key_at keys j) key) (Some j) s) e (from_remainder keys key p is)
 
--- there are eight places at most
-pub all_places : (n : ℕ) → 8 ≤ n → first_places n ≡ first_places 8
-all_places n h = take_all n eight h
+pub every_place : (keys key : List ℕ) (p n m : ℕ) → m ≡ min n 8 → find_from keys key (p % 8) (first_places m) ≡ find_from keys key p (first_places n)
+every_place keys key p n m e = from_remainder keys key p (first_places m) ∙ ap (find_from keys key p) (ap first_places e ∙ take_min n 8 eight (omega arith))

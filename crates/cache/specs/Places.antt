@@ -1,11 +1,9 @@
 -- The eight places of a selector, where keys are looked for and put: document 01, 'The selector'. Definitions only.
-use Rattle.std.specs.Prelude.{ℕ, ◌+◌, ◌*◌, ◌%◌, cond, List, [], ◌∷◌, ◌++◌, eqb, ltb, take, drop}
+use Rattle.std.specs.Prelude.{ℕ, ◌+◌, ◌*◌, ◌%◌, cond, List, [], ◌∷◌, ◌++◌, eqb, ltb, take, drop, Option, Some, None}
 use Rattle.std.proofs.Math.Seq.{slice}
 use Rattle.lists.specs.Lists.{all_same}
 use Rattle.keys.specs.Keys.{key_size}
 use Rattle.cache.specs.declared.Ring.{Ring}
-use Rattle.cache.specs.declared.Slot.{Slot}
-use Rattle.cache.specs.declared.Slot.TheVariants.{At, Missing}
 
 -- the key in place p
 abbrev pub key_at : List ℕ → ℕ → List ℕ
@@ -20,12 +18,12 @@ abbrev pub first_places : ℕ → List ℕ
 first_places n = take n (0 ∷ 1 ∷ 2 ∷ 3 ∷ 4 ∷ 5 ∷ 6 ∷ 7 ∷ [])
 
 -- the first equal key among those that stand i behind place p
-abbrev pub find_from : List ℕ → List ℕ → ℕ → List ℕ → Slot
-find_from keys key p [] = Missing
-find_from keys key p (i ∷ is) = cond (all_same eqb (key_at keys ((p + i) % 8)) key) (At ((p + i) % 8)) (find_from keys key p is)
+abbrev pub find_from : List ℕ → List ℕ → ℕ → List ℕ → Option ℕ
+find_from keys key p [] = None
+find_from keys key p (i ∷ is) = cond (all_same eqb (key_at keys ((p + i) % 8)) key) (Some ((p + i) % 8)) (find_from keys key p is)
 
 -- The list runs from the oldest place on; the first equal key counts.
-abbrev pub slot_of : List ℕ → Ring → List ℕ → Slot
+abbrev pub slot_of : List ℕ → Ring → List ℕ → Option ℕ
 slot_of keys r key = find_from keys key r.oldest (first_places r.count)
 
 -- the place of a new key: (oldest + keys held) mod 8

@@ -3,7 +3,7 @@ use Rattle.std.specs.Prelude.{ℕ, Bool, ◌&&◌, List, [], ◌∷◌, eqb, leb
 use Rattle.std.specs.Float.Ieee.Scale.{finite}
 use Rattle.doubles.specs.Arithmetic.{zero64, dec}
 use Rattle.doubles.specs.Range.{is_between}
-use Rattle.lists.specs.Lists.{all_of}
+use Rattle.std.specs.List.{list_all}
 use Rattle.layout.specs.Questions.{Question}
 use Rattle.field.specs.Place.{store_size}
 use Rattle.layout.specs.declared.Centre.{Centre}
@@ -18,7 +18,7 @@ is_gain g = finite g && is_between zero64 (dec 125 2) g
 
 -- 12. Are there exactly n point gains, each finite and from 0 to 5/4?
 abbrev pub question12 : ℕ → List Float → Bool
-question12 n points = eqb (length points) n && all_of is_gain points
+question12 n points = eqb (length points) n && list_all is_gain points
 
 -- 13. Has the gains slice, with this room, at least n places, and the field store, of this size, at least 285,312?
 abbrev pub question13 : ℕ → ℕ → ℕ → Bool

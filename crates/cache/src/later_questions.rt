@@ -1,54 +1,81 @@
 // Questions 11 to 14.
 ghost use Rattle.std.specs.Prelude.{◌≡◌, ◌++◌};
-ghost use Rattle.lists.specs.Lists.{all_of};
+ghost use Rattle.std.specs.List.{list_all};
 ghost use Rattle.layout.specs.Questions.{first_no};
-ghost use Rattle.cache.specs.Questions.{is_gain, question11, lent_questions, state_questions};
+ghost use Rattle.layout.specs.Refusals.{answer_by};
+ghost use Rattle.cache.specs.Questions.{is_gain, question11, question12, question13, question14, lent_questions, state_questions};
 
 use crate::Ring;
+use doubles::{is_between, is_finite};
 use field::STORE;
-use layout::Centre;
+use layout::{Centre, Refusal};
 
 // Question 11.
 fn is_finite_centre(c: Centre) -> bool
     ensures { result ≡ question11 c }
 {
-    doubles::is_finite(c.x) & doubles::is_finite(c.y) & doubles::is_finite(c.z)
+    is_finite(c.x) & is_finite(c.y) & is_finite(c.z)
+}
+
+// Whether a gain is finite and from 0 to 5/4.
+fn is_gain(g: f64) -> bool
+    ensures { result ≡ is_gain g }
+{
+    is_between(0.0, 1.25, g)
 }
 
 // Question 12, its second half.
 fn are_gains(points: &[f64]) -> bool
-    ensures { result ≡ all_of is_gain points.now }
+    ensures { result ≡ list_all is_gain points.now }
 {
-    let n = points.len();
-    let mut k = 0usize;
-    while k < n {
-        if !doubles::is_between(0.0, 1.25, points[k]) {
-            return false;
-        }
-        k += 1;
-    }
-    true
+    points.iter().all(|g| is_gain(*g))
 }
 
-// The first no of questions 11 to 14, for n gains in a slice with this room and a store of this size;
-// 0 where there is none.
-pub fn later_no(c: Centre, points: &[f64], n: usize, room: usize, size: usize, r: Ring) -> u64
-    ensures { result ≡ first_no (lent_questions c points.now n room size ++ state_questions r.count r.oldest) }
+// Question 12.
+fn are_point_gains(n: usize, points: &[f64]) -> bool
+    ensures { result ≡ question12 n points.now }
+{
+    points.len() == n && are_gains(points)
+}
+
+// Question 13.
+fn is_room(n: usize, room: usize, size: usize) -> bool
+    ensures { result ≡ question13 n room size }
+{
+    (n <= room) & (STORE <= size)
+}
+
+// Question 14.
+fn is_ring(r: Ring) -> bool
+    ensures { result ≡ question14 r.count r.oldest }
+{
+    (r.count <= 8) & (r.oldest < 8)
+}
+
+// The first no of questions 11 to 14, for n gains in a slice with this room and a store of this size.
+#[tactic(auto, unfolding(crate::specs::Questions::lent_questions, crate::specs::Questions::state_questions))]
+pub fn later_no(
+    c: Centre,
+    points: &[f64],
+    n: usize,
+    room: usize,
+    size: usize,
+    r: Ring,
+) -> Result<(), Refusal>
+    ensures { result ≡ answer_by (first_no (lent_questions c points.now n room size
+        ++ state_questions r.count r.oldest)) tt }
 {
     if !is_finite_centre(c) {
-        return 11;
+        return Err(Refusal::Centre);
     }
-    if points.len() != n {
-        return 12;
+    if !are_point_gains(n, points) {
+        return Err(Refusal::Points);
     }
-    if !are_gains(points) {
-        return 12;
+    if !is_room(n, room, size) {
+        return Err(Refusal::Slices);
     }
-    if (room < n) | (size < STORE) {
-        return 13;
+    if !is_ring(r) {
+        return Err(Refusal::State);
     }
-    if (8 < r.count) | (7 < r.oldest) {
-        return 14;
-    }
-    0
+    Ok(())
 }

@@ -8,7 +8,7 @@ pub use later_questions::later_no;
 pub use places::{find, next_place, put, turned};
 
 // What an accepted call says of its field.
-#[derive(Clone, Copy)]
+#[derive(Clone, Copy, Debug, PartialEq, Eq)]
 pub enum Word {
     Unused,
     Kept,
@@ -16,15 +16,8 @@ pub enum Word {
 }
 
 // How many keys a selector holds, and which place is the oldest.
-#[derive(Clone, Copy)]
+#[derive(Clone, Copy, Debug, PartialEq, Eq)]
 pub struct Ring {
     pub count: usize,
     pub oldest: usize,
-}
-
-// Where a key stands.
-#[derive(Clone, Copy)]
-pub enum Slot {
-    At(usize),
-    Missing,
 }

@@ -1,5 +1,5 @@
 -- The table of document 01's starred cases: what a definition gives, and what it must give, as numbers; a double by its bit pattern.
-use Rattle.std.specs.Prelude.{ℕ, ◌+◌, ◌*◌, Bool, true, false, List, [], ◌∷◌, eqb, pos, negsuc, Float}
+use Rattle.std.specs.Prelude.{ℕ, ◌+◌, ◌*◌, Bool, true, false, List, [], ◌∷◌, eqb, pos, negsuc, Float, Result, Ok, Err}
 use Rattle.std.specs.Float.{binary64, nan, fin}
 use Rattle.std.specs.Float.Ieee.{neg, to_bits, lt}
 use Rattle.doubles.specs.Arithmetic.{◌⊕◌, ◌⊗◌, ◌⊘◌, dec, from_int, zero64, one64}
@@ -7,12 +7,14 @@ use Rattle.approximations.specs.Circular.{H, L, sine_of, cosine_of}
 use Rattle.approximations.specs.Exp2.{exp2_of}
 use Rattle.layout.specs.declared.Anchor.{Anchor}
 use Rattle.layout.specs.declared.Layout.{Layout}
+use Rattle.layout.specs.declared.refusal.Refusal.{Refusal}
+use Rattle.layout.specs.declared.refusal.Refusal.TheVariants.{Zones}
+use Rattle.layout.specs.Refusals.{number_of}
 use Rattle.layout.specs.Build.{empty_layout, with_channel, with_layer, with_row, with_anchor}
 use Rattle.layout.specs.Topology.{topology_of}
 use Rattle.layout.specs.Questions.{first_no, layout_questions}
 use Rattle.extent.specs.declared.Extent.{Extent}
 use Rattle.extent.specs.declared.Reading.{Reading}
-use Rattle.extent.specs.declared.Reading.TheVariants as reading
 use Rattle.extent.specs.Extent.{extent_questions, mean_radius, radius_of, read_of, quantised}
 use Rattle.extent.specs.Kernel.{threshold, kernel_of}
 use Rattle.field.specs.Knots.{X, Y}
@@ -21,8 +23,7 @@ use Rattle.lists.specs.Lists.{bit}
 use Rattle.region.specs.declared.RegionHorizontalState.{RegionHorizontalState}
 use Rattle.region.specs.declared.RegionHorizontalState.TheVariants.{NoConstraints, BackExcluded, SideExcluded, CentreAndBack, ScreenOnly, SurroundOnly}
 use Rattle.region.specs.declared.RegionTopBottomState.TheVariants.{Exclude}
-use Rattle.region.specs.declared.Zones.{Zones}
-use Rattle.region.specs.declared.Zones.TheVariants.{State, Refused}
+use Rattle.region.specs.declared.RegionSemanticState.{RegionSemanticState}
 use Rattle.classes.specs.declared.BedMatch.{BedMatch}
 use Rattle.classes.specs.declared.BedMatch.TheVariants.{Kept, Dropped, Unclassed}
 use Rattle.region.specs.Zones.{zones_of, is_include}
@@ -57,9 +58,9 @@ abbrev pub below_half : Float
 below_half = fin false 9007199254740991 (negsuc 68)
 
 -- what a reading says, as a number: the mean, at most 32767, or above all means the question that refuses it
-abbrev pub reading_number : Reading → ℕ
-reading_number (reading.Refused q) = 32768 + q
-reading_number (reading.Read mean radius) = mean
+abbrev pub reading_number : Result Reading Refusal → ℕ
+reading_number (Err r) = 32768 + number_of r
+reading_number (Ok r) = r.mean
 
 -- an extent is read, with a mean; and it is refused, by a question
 abbrev pub reads : Extent → ℕ → Case
@@ -77,11 +78,11 @@ horizontal_number CentreAndBack = 4
 horizontal_number ScreenOnly = 5
 horizontal_number SurroundOnly = 6
 
-abbrev pub zones_number : Zones → ℕ
-zones_number (State s) = 100 * horizontal_number s.horizontal + bit (is_include s.top)
-zones_number (Refused n) = n
+abbrev pub zones_number : Result RegionSemanticState Refusal → ℕ
+zones_number (Ok s) = 100 * horizontal_number s.horizontal + bit (is_include s.top)
+zones_number (Err r) = number_of r
 
-abbrev pub zones : Zones → Zones → Case
+abbrev pub zones : Result RegionSemanticState Refusal → Result RegionSemanticState Refusal → Case
 zones a b = numbers (zones_number a) (zones_number b)
 
 -- what a region does with a speaker, as a number
@@ -148,8 +149,8 @@ cases =
     ∷ reads (extent below_half below_half below_half) 0
     ∷ reads (extent (halves 1) zero64 zero64) 0
     ∷ refuses (extent nan zero64 zero64) 7
-    ∷ zones (zones_of (false ∷ false ∷ false ∷ false ∷ false ∷ true ∷ [])) (Refused 8)
-    ∷ zones (zones_of (true ∷ true ∷ true ∷ true ∷ true ∷ false ∷ [])) (State (record { horizontal = NoConstraints; top = Exclude }))
+    ∷ zones (zones_of (false ∷ false ∷ false ∷ false ∷ false ∷ true ∷ [])) (Err Zones)
+    ∷ zones (zones_of (true ∷ true ∷ true ∷ true ∷ true ∷ false ∷ [])) (Ok (record { horizontal = NoConstraints; top = Exclude }))
     ∷ beds (bed_of BackExcluded left_surround (five_x surrounds)) Dropped
     ∷ beds (bed_of SideExcluded left_surround (five_x surrounds)) Kept
     ∷ beds (bed_of BackExcluded left_surround (five_x with_back)) Kept

@@ -3,10 +3,10 @@
 #![tactic(auto)]
 
 ghost use Rattle.std.specs.Prelude.{◌≡◌, true};
-ghost use Rattle.lists.specs.Lists.{all_of};
+ghost use Rattle.std.specs.List.{list_all};
 ghost use Rattle.cases.specs.Cases.{cases, holds};
 
 // Each case of the table holds.
 pub fn cases_hold()
-    ensures { all_of holds cases ≡ true }
+    ensures { list_all holds cases ≡ true }
 {}

@@ -1,5 +1,5 @@
 -- Classes of speakers, by document 01. Definitions only.
-use Rattle.std.specs.Prelude.{ℕ, ◌+◌, ◌*◌, Bool, true, false, cond, ◌||◌, not, List, [], ◌∷◌, eqb}
+use Rattle.std.specs.Prelude.{ℕ, ◌+◌, ◌*◌, Bool, true, false, cond, ◌||◌, not, List, [], ◌∷◌, eqb, Option, Some, None}
 use Rattle.lists.specs.Lists.{elem}
 use Rattle.region.specs.declared.RegionHorizontalState.{RegionHorizontalState}
 use Rattle.region.specs.declared.RegionHorizontalState.TheVariants.{NoConstraints, BackExcluded, SideExcluded, CentreAndBack, ScreenOnly, SurroundOnly}
@@ -75,14 +75,11 @@ abbrev pub wide_names : List ℕ
 wide_names = name2 L w ∷ name2 R w ∷ []
 
 -- screen, centre, surround, back and side, for a name that has a class
-abbrev pub classed_as : Bool → Bool → Bool → Bool → Bool → Classes
-classed_as screen centre surround back side = record { classed = true; screen = screen; centre = centre; surround = surround; back = back; side = side }
-
-abbrev pub unclassed : Classes
-unclassed = record { classed = false; screen = false; centre = false; surround = false; back = false; side = false }
+abbrev pub classed_as : Bool → Bool → Bool → Bool → Bool → Option Classes
+classed_as screen centre surround back side = Some (record { screen = screen; centre = centre; surround = surround; back = back; side = side })
 
 -- sixteen names have a class, every other name has none; in five-x Ls and Rs are back too, elsewhere Ls Rs SiL SiR Lw Rw are side
-abbrev pub classes_of : ℕ → Bool → Classes
+abbrev pub classes_of : ℕ → Bool → Option Classes
 classes_of n five =
     cond (elem n front_names) (classed_as true false false false false)
     (cond (elem n centre_names) (classed_as true true false false false)
@@ -90,7 +87,7 @@ classes_of n five =
     (cond (elem n side_names) (classed_as false false true false (not five))
     (cond (elem n back_names) (classed_as false false false true false)
     (cond (elem n wide_names) (classed_as false false false false (not five))
-    unclassed)))))
+    None)))))
 
 -- ---- what a horizontal state keeps
 
@@ -102,11 +99,12 @@ keeps CentreAndBack s = s.centre || s.back
 keeps ScreenOnly s = s.screen
 keeps SurroundOnly s = s.surround
 
-abbrev pub bed_match_if : Bool → Bool → BedMatch
-bed_match_if classed kept = cond classed (cond kept Kept Dropped) Unclassed
+abbrev pub bed_match : RegionHorizontalState → Option Classes → BedMatch
+bed_match h None = Unclassed
+bed_match h (Some s) = cond (keeps h s) Kept Dropped
 
 abbrev pub bed_of : RegionHorizontalState → ℕ → Bool → BedMatch
-bed_of h n five = bed_match_if (classes_of n five).classed (keeps h (classes_of n five))
+bed_of h n five = bed_match h (classes_of n five)
 
 -- ---- names by which layouts are told apart
 

@@ -1,11 +1,12 @@
 // Classes of speakers, and what a horizontal state keeps of them.
 ghost use Rattle.std.specs.Prelude.{◌≡◌};
-ghost use Rattle.classes.specs.Classes.{classed_as, classes_of, keeps, bed_match_if, bed_of, outside_five, is_flc};
+ghost use Rattle.classes.specs.Classes.{classes_of, keeps, bed_of, outside_five, is_flc};
 
 use crate::BedMatch;
 use region::RegionHorizontalState;
 
-// The sixteen names, packed with the first byte lowest.
+// The sixteen names, packed with the first byte lowest: a match over numbers is the form that document 01
+// names.
 const FL: u64 = 0x4c46;
 
 const FR: u64 = 0x5246;
@@ -38,10 +39,9 @@ const LW: u64 = 0x774c;
 
 const RW: u64 = 0x7752;
 
-// The classes of a speaker; `classed` is false where its name has none.
+// The classes of a speaker.
 #[derive(Clone, Copy)]
 struct Classes {
-    classed: bool,
     screen: bool,
     centre: bool,
     surround: bool,
@@ -49,39 +49,45 @@ struct Classes {
     side: bool,
 }
 
-// The classes of a speaker whose name has one.
-fn classed(screen: bool, centre: bool, surround: bool, back: bool, side: bool) -> Classes
-    ensures { result ≡ classed_as screen centre surround back side }
-{
-    Classes {
-        classed: true,
-        screen: screen,
-        centre: centre,
-        surround: surround,
-        back: back,
-        side: side,
-    }
-}
+const NONE: Classes = Classes {
+    screen: false,
+    centre: false,
+    surround: false,
+    back: false,
+    side: false,
+};
 
-// The classes of the speaker of a name.
-fn classes_of(name: u64, five: bool) -> Classes
+// The classes of the speaker of a name, where the name has any.
+fn classes_of(name: u64, five: bool) -> Option<Classes>
     ensures { result ≡ classes_of name five }
 {
     match name {
-        FL | FR | FLC | FRC => classed(true, false, false, false, false),
-        FC => classed(true, true, false, false, false),
-        LS | RS => classed(false, false, true, five, !five),
-        SIL | SIR => classed(false, false, true, false, !five),
-        LB | RB | BL | BR | BC => classed(false, false, false, true, false),
-        LW | RW => classed(false, false, false, false, !five),
-        _ => Classes {
-            classed: false,
-            screen: false,
-            centre: false,
-            surround: false,
-            back: false,
-            side: false,
-        },
+        FL | FR | FLC | FRC => Some(Classes {
+            screen: true,
+            ..NONE
+        }),
+        FC => Some(Classes {
+            screen: true,
+            centre: true,
+            ..NONE
+        }),
+        LS | RS => Some(Classes {
+            surround: true,
+            back: five,
+            side: !five,
+            ..NONE
+        }),
+        SIL | SIR => Some(Classes {
+            surround: true,
+            side: !five,
+            ..NONE
+        }),
+        LB | RB | BL | BR | BC => Some(Classes { back: true, ..NONE }),
+        LW | RW => Some(Classes {
+            side: !five,
+            ..NONE
+        }),
+        _ => None,
     }
 }
 
@@ -99,37 +105,22 @@ fn is_kept(state: RegionHorizontalState, s: Classes) -> bool
     }
 }
 
-// What is done with a speaker by whether its name has a class and whether it is kept.
-fn bed_match_if(classed: bool, kept: bool) -> BedMatch
-    ensures { result ≡ bed_match_if classed kept }
-{
-    if classed {
-        if kept {
-            BedMatch::Kept
-        } else {
-            BedMatch::Dropped
-        }
-    } else {
-        BedMatch::Unclassed
-    }
-}
-
 // What a horizontal state does with the speaker of a name.
 pub fn matches_bed_state(state: RegionHorizontalState, name: u64, five: bool) -> BedMatch
     ensures { result ≡ bed_of state name five }
 {
-    let s = classes_of(name, five);
-    bed_match_if(s.classed, is_kept(state, s))
+    match classes_of(name, five) {
+        None => BedMatch::Unclassed,
+        Some(s) if is_kept(state, s) => BedMatch::Kept,
+        Some(_) => BedMatch::Dropped,
+    }
 }
 
 // Whether a name is one of those that five-x has not.
 pub fn is_outside_five(name: u64) -> bool
     ensures { result ≡ outside_five name }
 {
-    match name {
-        LB | RB | BL | BR | LW | RW => true,
-        _ => false,
-    }
+    matches!(name, LB | RB | BL | BR | LW | RW)
 }
 
 // Whether a name is FLc.

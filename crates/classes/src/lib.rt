@@ -6,7 +6,8 @@ mod classes;
 pub use classes::{is_flc, is_outside_five, matches_bed_state};
 
 // What a region does with a speaker of the bed: it keeps it or drops it, or the speaker has no class.
-#[derive(Clone, Copy)]
+// Three names, and no Option<bool>: Some(false) says less than Dropped.
+#[derive(Clone, Copy, Debug, PartialEq, Eq)]
 pub enum BedMatch {
     Kept,
     Dropped,

@@ -1,15 +1,16 @@
--- What stays where two parts of a key are written; parts with zeros behind them, and a loop that writes these zeros.
+-- What stays where two parts of a key are written; parts with zeros behind them.
 use Prim.Native.Nat.{ℕ, ◌+◌, ◌-◌, ◌<◌, ◌≤◌}
-use mathlib.Core.Path.{◌≡◌, refl, sym, ap, ◌∙◌}
+use mathlib.Core.Path.{◌≡◌, sym, ap, ap₂, ◌∙◌}
+use mathlib.Core.Bool.{Bool}
 use mathlib.Core.List.{List, ◌++◌}
 use native.Mathlib.Omega.{arith}
-use lib.ListN.{length, take, drop, set, get_or, replicate, length-append, get_or-replicate, get_or-append}
-use lib.Seq.{slice, paste, length-paste, drop-paste, length-take-le, take-append-le, get_or-take, get_or-drop, get_or-append-add, ext_get_or}
+use lib.ListN.{length, take, drop, get_or, length-append, get_or-append}
+use lib.Seq.{slice, paste, length-paste, take-paste, drop-paste, take_all, length-take-le, take-append-le, get_or-take, get_or-drop, ext_get_or}
+use Rattle.std.proofs.lemmas.List.{drop_at, take-take}
 use Rattle.keys.specs.Keys.{filled_to}
 use Rattle.keys.specs.Steps.{two_parts}
-use Rattle.keys.proofs.KeyParts.{Packed, packed_more, packed_done}
 use Rattle.keys.proofs.KeyWhole.{length_filled}
-use Rattle.kept_anchors.specs.Steps.Kept.{Cleared}
+use Rattle.kept_anchors.specs.Steps.Kept.{picked, picked_parts}
 use Rattle.kept_anchors.proofs.Reached.{part_at, part_long}
 
 -- ---- one part
@@ -53,17 +54,6 @@ same_part c m l k p q h =
     (λ i g. sym (part_at c m l i (omega (arith, e))) ∙ h (c + i) (omega arith) (omega (arith, e)) ∙ part_at c m k i (omega (arith, e)))
 
 -- ---- parts with zeros behind them
-filled_zero : (m : ℕ) (xs : List ℕ) (i : ℕ) → length xs ≤ i → i < m → 0 ≡ get_or (filled_to m xs) i 0
-filled_zero m xs i h k =
-    let z : List ℕ = replicate m 0 in
-    let e : length xs + (i - length xs) ≡ i = omega arith in
-    sym
-    (ap (λ (j : ℕ). get_or (filled_to m xs) j 0) (sym e)
-    ∙ get_or-append-add xs (drop (length xs) z) (i - length xs) 0
-    ∙ get_or-drop (length xs) z (i - length xs) 0
-    ∙ ap (λ (j : ℕ). get_or z j 0) e
-    ∙ get_or-replicate m i 0 0 k)
-
 module _ (a b n : ℕ) (us vs old : List ℕ) (p : length us ≤ n) (q : length vs ≤ n) (apart : a + n ≤ b) (room : b + n ≤ length old) where
   abbrev filled : List ℕ
   filled = two_parts a (filled_to n us) b (filled_to n vs) n old
@@ -87,29 +77,36 @@ module _ (a b n : ℕ) (us vs old : List ℕ) (p : length us ≤ n) (q : length 
       same_part c m filled old (omega (arith, filled_long)) k
       (λ j g f. two_behind a b n (filled_to n us) (filled_to n vs) old firsts_filled seconds_filled apart room j (omega arith))
 
--- ---- a loop that clears two parts of a key from `from` up to `to`
-module _ (a b from to : ℕ) (start : List ℕ) where
-  -- those before i are zeros
-  abbrev pub Clearing : List ℕ → ℕ → Type 0
-  Clearing key i = (old xs ys : List ℕ) → length old ≡ 156 → length xs ≡ from → length ys ≡ from → start ≡ two_parts a xs b ys from old → Packed a (filled_to to xs) b (filled_to to ys) to old key i
+-- ---- the first of two parts written anew
+module _ (a b n : ℕ) (xs key : List ℕ) (p : length xs ≡ n) (apart : a + n ≤ b) (room : b + n ≤ length key) where
+  abbrev anew : List ℕ
+  anew = paste key a xs n
 
-  pub clear_none : from ≤ to → a + to ≤ b → b + to ≤ 156 → length start ≡ 156 → Clearing start from
-  clear_none h apart room k old xs ys o p q e =
-      let z : List ℕ = replicate to 0 in
-      record {
-        reached = h;
-        firsts = omega (arith, length_filled to xs (omega arith));
-        seconds = omega (arith, length_filled to ys (omega arith));
-        apart = apart;
-        room = omega arith;
-        long = omega arith;
-        same = rw (take-append-le from xs (drop (length xs) z) (omega arith), take-append-le from ys (drop (length ys) z) (omega arith)) e;
-      }
+  anew_long : length anew ≡ length key
+  anew_long = length-paste key a xs n (omega arith) (omega arith)
 
-  module _ (key : List ℕ) (i : ℕ) (w : Clearing key i) where
-    pub clear_more : from ≤ i → i < to → Clearing (set (set key (a + i) 0) (b + i) 0) (i + 1)
-    clear_more f g old xs ys o p q e =
-        packed_more a (filled_to to xs) b (filled_to to ys) to old key i (a + i) (b + i) 0 0 0 0 (w old xs ys o p q e) g refl refl (filled_zero to xs i (omega arith) g) (filled_zero to ys i (omega arith) g)
+  front_long : length (take a key) ≡ a
+  front_long = length-take-le a key (omega arith)
 
-    pub clear_done : to ≤ i → Cleared a b from to start key
-    clear_done g old xs ys o p q e = packed_done a (filled_to to xs) b (filled_to to ys) to old key i (w old xs ys o p q e) g
+  first_anew : slice a (a + n) anew ≡ xs
+  first_anew =
+      ap (drop a) (take-paste key a xs n (omega arith) (omega arith))
+      ∙ drop_at (take a key) (take n xs) a front_long
+      ∙ take_all n xs (omega arith)
+
+  second_anew : slice b (b + n) anew ≡ slice b (b + n) key
+  second_anew =
+      same_part b n anew key (omega (arith, anew_long)) room
+      (λ j g f. paste_behind key a xs n (omega arith) j (omega arith) (omega arith))
+
+  over_anew : (us : List ℕ) → paste anew a us n ≡ paste key a us n
+  over_anew us =
+      ap₂ (λ (l r : List ℕ). l ++ take n us ++ r)
+      (take-append-le a (take a key ++ take n xs) (drop (a + n) key) (omega (arith, front_long, length-append (take a key) (take n xs)))
+      ∙ take-append-le a (take a key) (take n xs) (omega (arith, front_long))
+      ∙ take-take a a key (omega arith))
+      (drop-paste key a xs n (omega arith) (omega arith))
+
+  -- what is kept of them
+  pub anew_picked : (bs : List Bool) → picked_parts a b n bs (slice a (a + n) anew) (slice b (b + n) anew) anew ≡ picked_parts a b n bs xs (slice b (b + n) key) key
+  anew_picked bs = rw (first_anew, second_anew, over_anew (filled_to n (picked bs xs)))

@@ -1,21 +1,29 @@
--- A loop that counts the flags that are set.
-use Prim.Native.Nat.{ℕ, zero, suc, ◌+◌, ◌<◌, ◌≤◌}
-use mathlib.Core.Path.{◌≡◌, refl, ap}
-use mathlib.Core.Bool.{Bool, false}
+-- How many flags are set.
+use Prim.Native.Nat.{ℕ, zero, suc, ◌+◌, ◌≤◌}
+use mathlib.Core.Path.{◌≡◌, refl, sym}
+use mathlib.Core.Bool.{Bool, true, false, cond}
 use mathlib.Core.List.{List, [], ◌∷◌}
-use native.Mathlib.Numerals.{add-one}
 use native.Mathlib.Omega.{arith}
-use lib.ListN.{length, get_or, take, drop, length-take}
-use lib.Seq.{slice, slice-cons}
-use Rattle.lists.specs.Lists.{bit}
-use Rattle.kept_anchors.specs.Steps.Kept.{count_set}
+use lib.ListN.{length, take, drop, length-take}
+use lib.Seq.{slice}
+use Rattle.std.specs.List.{count_by}
+use Rattle.std.proofs.lemmas.List.Recursion.{is_count_by}
+use Rattle.kept_anchors.specs.Steps.Kept.{count_set, picked}
 
--- ---- the loop over the flags from at up to end
-module _ (bs : List Bool) (end : ℕ) (k : end ≤ length bs) (i n whole : ℕ) (inv : n + count_set (slice i end bs) ≡ whole) where
-  pub count_more : (b : Bool) → i < end → get_or bs i false ≡ b → (n + bit b) + count_set (slice (i + 1) end bs) ≡ whole
-  count_more b h q =
-      let e : count_set (slice i end bs) ≡ bit b + count_set (slice (i + 1) end bs) = rw (add-one, slice-cons i end bs false h k, q) in
-      omega (arith, e, inv)
+pub count_set_is : (bs : List Bool) → count_by (λ (b : Bool). b) bs ≡ count_set bs
+count_set_is bs = sym (is_count_by count_set (λ (b : Bool). b) refl step bs)
+  where
+    step : (b : Bool) (bs : List Bool) → count_set (b ∷ bs) ≡ cond b (1 + count_set bs) (count_set bs)
+    step true bs = refl
+    step false bs = omega arith
+
+-- as many as are picked by them
+pub count_picked : {A : Type 0} (bs : List Bool) (xs : List A) → length xs ≡ length bs → length (picked bs xs) ≡ count_set bs
+count_picked [] [] h = refl
+count_picked [] (x ∷ xs) h = refl
+count_picked (b ∷ bs) [] h = absurd (omega arith)
+count_picked (true ∷ bs) (x ∷ xs) h = omega (arith, count_picked bs xs (omega arith))
+count_picked (false ∷ bs) (x ∷ xs) h = omega (arith, count_picked bs xs (omega arith))
 
 drop_past : {A : Type 0} (n : ℕ) (l : List A) → length l ≤ n → drop n l ≡ []
 drop_past zero [] h = refl
@@ -25,7 +33,3 @@ drop_past (suc n) (x ∷ xs) h = drop_past n xs (omega arith)
 
 pub slice_past : {A : Type 0} (i end : ℕ) (l : List A) → end ≤ i → slice i end l ≡ []
 slice_past i end l h = drop_past i (take end l) (omega (arith, length-take end l))
-
-pub count_done : (bs : List Bool) (end i n whole : ℕ) → end ≤ length bs → end ≤ i → n + count_set (slice i end bs) ≡ whole → n ≡ whole
-count_done bs end i n whole k h e =
-    omega (arith, e, ap count_set (slice_past i end bs h))

@@ -1,6 +1,5 @@
 pub mod Picked
 pub mod Counts
-pub mod Positive
 pub mod Reached
 pub mod Apart
 pub mod Sifted

@@ -5,11 +5,11 @@ use mathlib.Core.Bool.{Bool, true, false, cond}
 use mathlib.Core.List.{List, [], ◌∷◌, map}
 use native.Mathlib.Omega.{arith}
 use lib.ListN.{length, take}
-use Rattle.lists.specs.Lists.{filtered}
+use Rattle.std.specs.List.{filter}
 use Rattle.kept_anchors.specs.Steps.Kept.{picked}
 
 -- those that pass a test are picked by it
-pub filter_picked : {A : Type 0} (p : A → Bool) (xs : List A) → filtered p xs ≡ picked (map p xs) xs
+pub filter_picked : {A : Type 0} (p : A → Bool) (xs : List A) → filter p xs ≡ picked (map p xs) xs
 filter_picked p [] = refl
 filter_picked {A = A} p (x ∷ xs) = ap (λ (l : List A). cond (p x) (x ∷ l) l) (filter_picked p xs)
 

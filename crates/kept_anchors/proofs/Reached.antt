@@ -5,8 +5,8 @@ use mathlib.Core.Bool.{Bool}
 use mathlib.Core.List.{List, [], ◌∷◌}
 use native.Mathlib.Numerals.{add-one}
 use native.Mathlib.Omega.{arith}
-use lib.ListN.{length, take, drop, set, get_or}
-use lib.Seq.{slice, take-suc, take-suc-set, take_all, drop-drop, get_or-take, get_or-drop, length-slice}
+use lib.ListN.{length, take, drop, get_or}
+use lib.Seq.{slice, drop-drop, get_or-take, get_or-drop, length-slice}
 use Rattle.lists.specs.Lists.{total}
 use Rattle.lists.proofs.Chunks.{slice_take}
 use Rattle.layout.proofs.TopologyLists.{drop_cap}
@@ -41,17 +41,11 @@ pub record Reached (ns : List ℕ) (n at i : ℕ) : Type 0 where
   pub counts : length ns ≡ n
   pub start : at ≡ min (total (take i ns)) 24
 
-pub reached_none : (ns : List ℕ) (n : ℕ) → length ns ≡ n → Reached ns n 0 0
-reached_none ns n e = record { le = omega arith; counts = e; start = omega arith }
-
 module _ (ns : List ℕ) (n at i : ℕ) (w : Reached ns n at i) where
   pub reached_more : (c end : ℕ) → i < n → c ≡ get_or ns i 0 → end ≡ min (at + c) 24 → Reached ns n end (i + 1)
   reached_more c end h p q =
       let t = total_more ns i (omega (arith, w.counts)) in
       record { le = omega arith; counts = w.counts; start = rw add-one (omega (arith, t, p, q, w.start)) }
-
-  pub reached_done : n ≤ i → at ≡ min (total ns) 24
-  reached_done h = w.start ∙ ap (λ (l : List ℕ). min (total l) 24) (take_all i ns (omega (arith, w.counts)))
 
   -- how many flags are set in this part
   pub reached_count : (bs : List Bool) (c end : ℕ) → length bs ≡ 24 → i < n → c ≡ get_or ns i 0 → end ≡ min (at + c) 24 → count_set (slice at end bs) ≡ get_or (counts_of ns bs) i 0
@@ -62,11 +56,3 @@ module _ (ns : List ℕ) (n at i : ℕ) (w : Reached ns n at i) where
       ∙ ap (λ (t : List Bool). count_set (take c t)) (sym (drop_cap (total (take i ns)) 24 bs (omega (arith, l))))
       ∙ ap (λ (m : ℕ). count_set (take m (drop (total (take i ns)) bs))) p
       ∙ sym (count_at ns bs i (omega (arith, w.counts)))
-
--- ---- a loop that writes the counts from the front of an array
-module _ (l out : List ℕ) (i : ℕ) (e : take i out ≡ take i l) where
-  pub written_more : (a : ℕ) → i < length out → i < length l → a ≡ get_or l i 0 → take (i + 1) (set out i a) ≡ take (i + 1) l
-  written_more a h k q = rw (add-one, take-suc-set out i a h, take-suc l i 0 k, e, q)
-
-  pub written_done : (n : ℕ) → i ≡ n → length l ≡ n → take n out ≡ l
-  written_done n p q = rw (← p) (e ∙ take_all i l (omega (arith, p, q)))

@@ -1,15 +1,18 @@
 -- A loop over n entries of two lists writes those whose flags are set to the front of two parts of a key, over what is read already.
-use Prim.Native.Nat.{ℕ, zero, suc, ◌+◌, ◌<◌, ◌≤◌}
+use Prim.Native.Nat.{ℕ, zero, suc, ◌+◌, ◌-◌, ◌<◌, ◌≤◌}
 use mathlib.Core.Path.{◌≡◌, refl, sym, ap, ◌∙◌}
 use mathlib.Core.Bool.{Bool, true, false}
 use mathlib.Core.List.{List, [], ◌∷◌, ◌++◌}
 use native.Mathlib.Numerals.{add-one}
 use native.Mathlib.Omega.{arith}
-use lib.ListN.{length, take, set, get_or, length-append}
-use lib.Seq.{paste, paste-zero, take-append-le, take_all, get_or_at, get_or-set_other}
+use lib.ListN.{length, take, drop, set, get_or, replicate, length-append}
+use lib.Seq.{paste, paste-zero, take-append-le, take_all, get_or_at, get_or-set_other, get_or-append_right}
+use Rattle.std.proofs.lemmas.List.{get_or-drop, get_or-replicate}
+use Rattle.keys.specs.Keys.{filled_to}
 use Rattle.keys.specs.Steps.{two_parts}
 use Rattle.keys.proofs.KeyParts.{Packed, packed_more}
-use Rattle.kept_anchors.specs.Steps.Kept.{picked, picked_parts, Cleared}
+use Rattle.keys.proofs.KeyWhole.{length_filled}
+use Rattle.kept_anchors.specs.Steps.Kept.{picked, picked_parts}
 use Rattle.kept_anchors.proofs.Picked.{none_picked}
 use Rattle.kept_anchors.proofs.Apart.{two_between, two_behind}
 
@@ -42,6 +45,31 @@ pub record Sifted (a b n : ℕ) (bs : List Bool) (xs ys old key : List ℕ) (k i
   pub written : length (picked bs (take i xs)) ≡ k
   pub beside : length (picked bs (take i ys)) ≡ k
   pub same : key ≡ two_parts a (picked bs (take i xs)) b (picked bs (take i ys)) k old
+
+-- ---- the loop behind it: zeros up to j
+pub record Zeroed (a b n : ℕ) (bs : List Bool) (xs ys old key : List ℕ) (j : ℕ) : Type 0 where
+  pub packed : Packed a (filled_to n (picked bs xs)) b (filled_to n (picked bs ys)) n old key j
+  pub firsts : length (picked bs xs) ≤ j
+  pub seconds : length (picked bs ys) ≤ j
+
+-- behind a list in n zeros stand zeros
+behind : (n : ℕ) (us : List ℕ) (j : ℕ) → length us ≤ j → j < n → 0 ≡ get_or (filled_to n us) j 0
+behind n us j h k =
+    sym (get_or-append_right us (drop (length us) (replicate n 0)) j 0 h
+    ∙ get_or-drop (length us) (replicate n 0) (j - length us) 0
+    ∙ get_or-replicate n (length us + (j - length us)) 0 0 (omega arith))
+
+module _ (a b n : ℕ) (bs : List Bool) (xs ys old key : List ℕ) (j : ℕ) (w : Zeroed a b n bs xs ys old key j) where
+  pub zeroed_more : j < n → Zeroed a b n bs xs ys old (set (set key (a + j) 0) (b + j) 0) (j + 1)
+  zeroed_more h =
+      record {
+        packed = packed_more a (filled_to n (picked bs xs)) b (filled_to n (picked bs ys)) n old key j (a + j) (b + j) 0 0 0 0 w.packed h refl refl (behind n (picked bs xs) j w.firsts h) (behind n (picked bs ys) j w.seconds h);
+        firsts = omega (arith, w.firsts);
+        seconds = omega (arith, w.seconds);
+      }
+
+  pub zeroed_done : n ≤ j → key ≡ picked_parts a b n bs xs ys old
+  zeroed_done h = let e : j ≡ n = omega (arith, w.packed.reached) in rw e at w.packed.same
 
 module _ (a b n : ℕ) (bs : List Bool) (xs ys old : List ℕ) where
   pub sifted_none : n ≤ length bs → length xs ≡ n → length ys ≡ n → a + n ≤ b → b + n ≤ length old → Sifted a b n bs xs ys old old 0 0
@@ -136,10 +164,25 @@ module _ (a b n : ℕ) (bs : List Bool) (xs ys old : List ℕ) where
       pub sifted_count : k ≡ length (picked bs xs)
       sifted_count = sym w.written ∙ ap (λ (l : List ℕ). length (picked bs l)) firsts_all
 
-      -- with what is left behind them cleared
-      pub sifted_done : (out : List ℕ) → length old ≡ 156 →
-          Cleared a b k n key out → out ≡ picked_parts a b n bs xs ys old
-      sifted_done out o f =
-          f old (picked bs xs) (picked bs ys) o (sym sifted_count)
-          (ap (λ (l : List ℕ). length (picked bs l)) (sym seconds_all) ∙ w.beside)
-          (rw (firsts_all, seconds_all) at w.same)
+      -- zeros are written from here on
+      pub zeroed_none : Zeroed a b n bs xs ys old key k
+      zeroed_none =
+          let us = picked bs xs in
+          let vs = picked bs ys in
+          let lu : length us ≡ k = sym sifted_count in
+          let lv : length vs ≡ k = ap (λ (l : List ℕ). length (picked bs l)) (sym seconds_all) ∙ w.beside in
+          let zero_us : List ℕ = drop (length us) (replicate n 0) in
+          let zero_vs : List ℕ = drop (length vs) (replicate n 0) in
+          record {
+            packed = record {
+              reached = omega (arith, w.few, w.reached);
+              firsts = omega (arith, length_filled n us (omega (arith, w.few, w.reached, lu)));
+              seconds = omega (arith, length_filled n vs (omega (arith, w.few, w.reached, lv)));
+              apart = w.apart;
+              room = w.room;
+              long = w.long;
+              same = rw (take-append-le k us zero_us (omega (arith, lu)), take-append-le k vs zero_vs (omega (arith, lv))) (rw (firsts_all, seconds_all) at w.same);
+            };
+            firsts = omega (arith, lu);
+            seconds = omega (arith, lv);
+          }

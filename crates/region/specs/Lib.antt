@@ -1,2 +1,1 @@
 pub mod Zones
-pub mod Steps

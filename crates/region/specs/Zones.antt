@@ -1,13 +1,15 @@
 -- Region states and their flags, by document 01. Definitions only.
-use Rattle.std.specs.Prelude.{ℕ, Bool, true, false, cond, ◌&&◌, List, [], ◌∷◌, ◌++◌, map, eqb, take, get_or}
-use Rattle.lists.specs.Lists.{bit, any_of, all_same}
+use Rattle.std.specs.Prelude.{ℕ, Bool, true, false, cond, ◌&&◌, List, [], ◌∷◌, ◌++◌, map, eqb, take, get_or, Result, Ok, Err}
+use Rattle.lists.specs.Lists.{bit, all_same}
+use Rattle.std.specs.List.{list_any}
 use Rattle.region.specs.declared.RegionHorizontalState.{RegionHorizontalState}
 use Rattle.region.specs.declared.RegionHorizontalState.TheVariants.{NoConstraints, BackExcluded, SideExcluded, CentreAndBack, ScreenOnly, SurroundOnly}
 use Rattle.region.specs.declared.RegionTopBottomState.{RegionTopBottomState}
 use Rattle.region.specs.declared.RegionTopBottomState.TheVariants.{Include, Exclude}
 use Rattle.region.specs.declared.RegionSemanticState.{RegionSemanticState}
-use Rattle.region.specs.declared.Zones.{Zones}
-use Rattle.region.specs.declared.Zones.TheVariants.{State, Refused}
+use Rattle.layout.specs.declared.refusal.Refusal.{Refusal}
+use Rattle.layout.specs.declared.refusal.Refusal.TheVariants.{Zones}
+use Rattle.layout.specs.Refusals.{number_of}
 
 -- the first five flags of each horizontal state
 abbrev pub five_of : RegionHorizontalState → List Bool
@@ -38,18 +40,18 @@ abbrev pub horizontals : List RegionHorizontalState
 horizontals = NoConstraints ∷ BackExcluded ∷ SideExcluded ∷ CentreAndBack ∷ ScreenOnly ∷ SurroundOnly ∷ []
 
 -- the first of hs that has these five flags, with a top state beside it; refusal 8 where none has
-abbrev pub zones_among : List RegionHorizontalState → List Bool → RegionTopBottomState → Zones
-zones_among [] five t = Refused 8
-zones_among (h ∷ hs) five t = cond (all_same same_flag (five_of h) five) (State (record { horizontal = h; top = t })) (zones_among hs five t)
+abbrev pub zones_among : List RegionHorizontalState → List Bool → RegionTopBottomState → Result RegionSemanticState Refusal
+zones_among [] five t = Err Zones
+zones_among (h ∷ hs) five t = cond (all_same same_flag (five_of h) five) (Ok (record { horizontal = h; top = t })) (zones_among hs five t)
 
 -- the state that six flags say
-abbrev pub zones_of : List Bool → Zones
+abbrev pub zones_of : List Bool → Result RegionSemanticState Refusal
 zones_of flags = zones_among horizontals (take 5 flags) (top_of (get_or flags 5 false))
 
 -- the number of a refusal, and 0 for a state
-abbrev pub refusal_of : Zones → ℕ
-refusal_of (State s) = 0
-refusal_of (Refused n) = n
+abbrev pub told : Result RegionSemanticState Refusal → ℕ
+told (Ok s) = 0
+told (Err r) = number_of r
 
 -- only these twelve patterns are admitted
 abbrev pub patterns : List (List Bool)
@@ -57,7 +59,7 @@ patterns = map (λ h. flags_of (record { horizontal = h; top = Include })) horiz
 
 -- 8. Are the flags an admitted pattern?
 abbrev pub question8 : List Bool → Bool
-question8 flags = any_of (all_same same_flag flags) patterns
+question8 flags = list_any (all_same same_flag flags) patterns
 
 -- the default state: NoConstraints, Include
 abbrev pub default_state : RegionSemanticState

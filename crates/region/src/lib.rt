@@ -8,7 +8,7 @@ mod flags;
 
 pub use flags::{from_decoded_zones, is_default, is_include, to_decoded_zones};
 
-#[derive(Clone, Copy)]
+#[derive(Clone, Copy, Debug, PartialEq, Eq)]
 pub enum RegionHorizontalState {
     NoConstraints,
     BackExcluded,
@@ -18,14 +18,14 @@ pub enum RegionHorizontalState {
     SurroundOnly,
 }
 
-#[derive(Clone, Copy)]
+#[derive(Clone, Copy, Debug, PartialEq, Eq)]
 pub enum RegionTopBottomState {
     Include,
     Exclude,
 }
 
 // A horizontal state with a top state beside it.
-#[derive(Clone, Copy)]
+#[derive(Clone, Copy, Debug, PartialEq, Eq)]
 pub struct RegionSemanticState {
     pub horizontal: RegionHorizontalState,
     pub top: RegionTopBottomState,
@@ -37,17 +37,14 @@ impl RegionSemanticState {
         horizontal: RegionHorizontalState::NoConstraints,
         top: RegionTopBottomState::Include,
     };
+}
 
-    pub fn default() -> RegionSemanticState
+impl Default for RegionSemanticState {
+    ghost is_default = { λ s. s ≡ default_state };
+
+    fn default() -> RegionSemanticState
         ensures { result ≡ default_state }
     {
         RegionSemanticState::DEFAULT
     }
-}
-
-// What six flags say: a state, or the number of the refusal.
-#[derive(Clone, Copy)]
-pub enum Zones {
-    State(RegionSemanticState),
-    Refused(u64),
 }

@@ -6,19 +6,17 @@ use Rattle.region.specs.declared.RegionSemanticState.{RegionSemanticState}
 use Rattle.region.specs.Zones.{is_include}
 use Rattle.classes.specs.Classes.{bed_of}
 use Rattle.rules.specs.declared.rule.Rule.{Rule}
+use Rattle.rules.specs.declared.rule.Rule.TheVariants.{Upper, Lower}
 use Rattle.rules.specs.Rules.{is_kept}
 
 -- the rule of layer i of depth, at height z, in a room that has FLc or not: what is asked of an anchor, with what does not vary with the anchor worked out
 abbrev pub rule_of : Bool → Bool → RegionSemanticState → ℕ → ℕ → Float → Rule
 rule_of is222 five s depth i z =
-    record {
-      upper = cond is222 (lt zero64 z) (eqb depth 2 && eqb i 1);
-      include = is_include s.top;
-      whole = is222 && lt z zero64;
-      horizontal = s.horizontal;
-      five = five;
-    }
+    cond (cond is222 (lt zero64 z) (eqb depth 2 && eqb i 1))
+    (Upper (is_include s.top))
+    (Lower (is222 && lt z zero64) s.horizontal five)
 
 -- whether the anchor of a name stays by a rule
 abbrev pub stays_by : Rule → ℕ → Bool
-stays_by r n = cond r.upper r.include (r.whole || is_kept (bed_of r.horizontal n r.five))
+stays_by (Upper include) n = include
+stays_by (Lower whole h five) n = whole || is_kept (bed_of h n five)

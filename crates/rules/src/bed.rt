@@ -11,24 +11,12 @@ use region::RegionHorizontalState;
 pub fn is_classed(h: RegionHorizontalState, name: u64, five: bool) -> bool
     ensures { result ≡ is_classed (bed_of h name five) }
 {
-    let b = matches_bed_state(h, name, five);
-    match b {
-        BedMatch::Kept => true,
-        BedMatch::Dropped => true,
-        BedMatch::Unclassed => false,
-    }
+    matches_bed_state(h, name, five) != BedMatch::Unclassed
 }
 
 // Whether a horizontal state is NoConstraints.
 pub fn is_no_constraints(h: RegionHorizontalState) -> bool
     ensures { result ≡ is_no_constraints h }
 {
-    match h {
-        RegionHorizontalState::NoConstraints => true,
-        RegionHorizontalState::BackExcluded => false,
-        RegionHorizontalState::SideExcluded => false,
-        RegionHorizontalState::CentreAndBack => false,
-        RegionHorizontalState::ScreenOnly => false,
-        RegionHorizontalState::SurroundOnly => false,
-    }
+    h == RegionHorizontalState::NoConstraints
 }

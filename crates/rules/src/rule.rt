@@ -11,12 +11,15 @@ use region::{RegionHorizontalState, RegionSemanticState, is_include};
 
 // How a layer keeps its anchors: an upper one goes or stays whole, others keep all or go by class.
 #[derive(Clone, Copy)]
-pub struct Rule {
-    upper: bool,
-    include: bool,
-    whole: bool,
-    horizontal: RegionHorizontalState,
-    five: bool,
+pub enum Rule {
+    Upper {
+        include: bool,
+    },
+    Lower {
+        whole: bool,
+        horizontal: RegionHorizontalState,
+        five: bool,
+    },
 }
 
 // Whether layer i of depth, at height z, is upper.
@@ -37,7 +40,8 @@ fn keeps_all(is_22_2: bool, z: f64) -> bool
     is_22_2 & (z < 0.0)
 }
 
-// The rule of layer i, at height z.
+// The rule of layer i, at height z. Six plain values: they come from the room, the state and the layer,
+// and one caller has them, so a struct of them would be made and taken apart once.
 pub fn rule_of(
     is_22_2: bool,
     five: bool,
@@ -48,17 +52,16 @@ pub fn rule_of(
 ) -> Rule
     ensures { result ≡ rule_of is_22_2 five state depth i z }
 {
-    let upper = is_upper(is_22_2, depth, i, z);
-    let top = state.top;
-    let include = is_include(top);
-    let whole = keeps_all(is_22_2, z);
-    let horizontal = state.horizontal;
-    Rule {
-        upper: upper,
-        include: include,
-        whole: whole,
-        horizontal: horizontal,
-        five: five,
+    if is_upper(is_22_2, depth, i, z) {
+        Rule::Upper {
+            include: is_include(state.top),
+        }
+    } else {
+        Rule::Lower {
+            whole: keeps_all(is_22_2, z),
+            horizontal: state.horizontal,
+            five,
+        }
     }
 }
 
@@ -66,22 +69,19 @@ pub fn rule_of(
 fn is_kept(h: RegionHorizontalState, name: u64, five: bool) -> bool
     ensures { result ≡ is_kept (bed_of h name five) }
 {
-    let b = matches_bed_state(h, name, five);
-    match b {
-        BedMatch::Kept => true,
-        BedMatch::Dropped => false,
-        BedMatch::Unclassed => false,
-    }
+    matches_bed_state(h, name, five) == BedMatch::Kept
 }
 
 // Whether the anchor of a name stays by a rule.
 pub fn stays_by(rule: Rule, name: u64) -> bool
     ensures { result ≡ stays_by rule name }
 {
-    let h = rule.horizontal;
-    if rule.upper {
-        rule.include
-    } else {
-        rule.whole | is_kept(h, name, rule.five)
+    match rule {
+        Rule::Upper { include } => include,
+        Rule::Lower {
+            whole,
+            horizontal,
+            five,
+        } => whole | is_kept(horizontal, name, five),
     }
 }

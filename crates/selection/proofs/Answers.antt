@@ -7,8 +7,12 @@ use native.Mathlib.Omega.{arith}
 use borrow.Author.Tests.{le-leb, ne_eqb}
 use lib.Dec.{eqb, leb}
 use lib.ListN.{length, drop, replicate}
-use Rattle.lists.specs.Lists.{all_of, any_of, filtered}
+use Rattle.std.specs.Prelude.{Result, Err}
+use Rattle.std.specs.List.{list_all, list_any, filter}
 use Rattle.layout.specs.declared.Anchor.{Anchor}
+use Rattle.layout.specs.declared.refusal.Refusal.{Refusal}
+use Rattle.layout.specs.Refusals.{answer_by}
+use Rattle.layout.proofs.RefusalLaws.{err_says}
 use Rattle.layout.specs.Questions.{first_no, layout_questions, question1, question2, question3, question4, question5, question6}
 use Rattle.layout.specs.Room.{Room}
 use Rattle.layout.specs.Topology.{TopologyRow, TopologyLayer}
@@ -47,15 +51,22 @@ module _ (s : RegionSemanticState) (key : List ℕ) where
   unfolding selected_key
   key_after_lem n e = rw e
 
-  -- refused: the number, and the key as it was
+  -- the answer by a number
+  abbrev pub answer : ℕ → Result (Unit {0}) Refusal
+  answer n = answer_by n tt
+
+  -- refused: the answer, and the key as it was
   abbrev Refused : ℕ → Type 0
-  Refused n = (n ≡ first_no (selection_questions s key)) × (key ≡ selected_key s key)
+  Refused n = (answer n ≡ answer (first_no (selection_questions s key))) × (key ≡ selected_key s key)
 
   stays_key : (n : ℕ) → (n ≡ 0 → ⊥) → first_no (selection_questions s key) ≡ n → Refused n
-  stays_key n h e = (sym e, sym (key_after_lem n e ∙ ap (λ (b : Bool). cond b (cond (is_default s) key (with_layers key (selected_room s (room_in key)))) key) (ne_eqb n 0 h)))
+  stays_key n h e = (rw e, sym (key_after_lem n e ∙ ap (λ (b : Bool). cond b (cond (is_default s) key (with_layers key (selected_room s (room_in key)))) key) (ne_eqb n 0 h)))
 
-  pub refused_1_to_6 : (n : ℕ) → n ≡ asked → (n ≡ 0 → ⊥) → Refused n
-  refused_1_to_6 n e h = stays_key n h (first_no_lem ∙ ap (λ (m : ℕ). cond (eqb m 0) last m) (sym e) ∙ ap (λ (b : Bool). cond b last n) (ne_eqb n 0 h))
+  pub refused_1_to_6 : (r : Refusal) → answer asked ≡ Err r → (Err r ≡ answer (first_no (selection_questions s key))) × (key ≡ selected_key s key)
+  refused_1_to_6 r e =
+      let h = (err_says asked tt r e).0 in
+      let k = stays_key asked h (first_no_lem ∙ ap (λ (b : Bool). cond b last asked) (ne_eqb asked 0 h)) in
+      (sym e ∙ k.0, k.1)
 
   module _ (none : asked ≡ 0) where
     passed : first_no (selection_questions s key) ≡ last
@@ -73,11 +84,14 @@ module _ (s : RegionSemanticState) (key : List ℕ) where
 
       -- accepted: 0, and the key by the state
       module _ (ten : question10 s (room_in key) ≡ true) where
-        pub answer_0 : 0 ≡ first_no (selection_questions s key)
-        answer_0 = sym (passed ∙ next ∙ ap (λ (b : Bool). cond b 0 10) ten)
+        none_no : first_no (selection_questions s key) ≡ 0
+        none_no = passed ∙ next ∙ ap (λ (b : Bool). cond b 0 10) ten
+
+        pub answer_0 : answer 0 ≡ answer (first_no (selection_questions s key))
+        answer_0 = rw none_no
 
         by_state : selected_key s key ≡ cond (is_default s) key (with_layers key (selected_room s (room_in key)))
-        by_state = key_after_lem 0 (sym answer_0)
+        by_state = key_after_lem 0 none_no
 
         pub default_key : is_default s ≡ true → key ≡ selected_key s key
         default_key d = sym (by_state ∙ ap (λ (b : Bool). cond b key (with_layers key (selected_room s (room_in key)))) d)
@@ -90,28 +104,28 @@ module _ (s : RegionSemanticState) (r : Room) where
   pub default_ten : is_default s ≡ true → question10 s r ≡ true
   default_ten e = go (is_no_constraints s.horizontal) e
     where
-      go : (b : Bool) → (b && is_include s.top) ≡ true → (b || all_of (classed_layer (five_x r) s) r.layers) ≡ true
+      go : (b : Bool) → (b && is_include s.top) ≡ true → (b || list_all (classed_layer (five_x r) s) r.layers) ≡ true
       go true q = refl
       go false q = absurd (true≢false (sym q))
 
   pub default_nine : is_default s ≡ true → 1 ≤ length r.layers → question9 s r ≡ true
-  default_nine e h = ap (λ (b : Bool). leb 1 (length (cond b r (record { channels = r.channels; layers = filtered has_rows (passing_from (stays s r) 0 r.layers) })).layers)) e ∙ le-leb 1 (length r.layers) h
+  default_nine e h = ap (λ (b : Bool). leb 1 (length (cond b r (record { channels = r.channels; layers = filter has_rows (passing_from (stays s r) 0 r.layers) })).layers)) e ∙ le-leb 1 (length r.layers) h
 
   pub default_room : is_default s ≡ true → selected_room s r ≡ r
-  default_room e = ap (λ (b : Bool). cond b r (record { channels = r.channels; layers = filtered has_rows (passing_from (stays s r) 0 r.layers) })) e
+  default_room e = ap (λ (b : Bool). cond b r (record { channels = r.channels; layers = filter has_rows (passing_from (stays s r) 0 r.layers) })) e
 
   pub other_room : is_default s ≡ false → selected_room s r ≡ kept_room (kept_flags s r) r
   other_room e =
-      ap (λ (b : Bool). cond b r (record { channels = r.channels; layers = filtered has_rows (passing_from (stays s r) 0 r.layers) })) e
+      ap (λ (b : Bool). cond b r (record { channels = r.channels; layers = filter has_rows (passing_from (stays s r) 0 r.layers) })) e
       ∙ ap (λ (ys : List TopologyLayer). record { channels = r.channels; layers = ys }) (sym (kept_tested (stays s r) r.layers _))
 
 -- ---- a layer is left where a flag is set
-any_append : (bs cs : List Bool) → any_of is_set (bs ++ cs) ≡ (any_of is_set bs || any_of is_set cs)
+any_append : (bs cs : List Bool) → list_any is_set (bs ++ cs) ≡ (list_any is_set bs || list_any is_set cs)
 any_append [] cs = refl
 any_append (true ∷ bs) cs = refl
 any_append (false ∷ bs) cs = any_append bs cs
 
-none_set : (n k : ℕ) → any_of is_set (drop n (replicate k false)) ≡ false
+none_set : (n k : ℕ) → list_any is_set (drop n (replicate k false)) ≡ false
 none_set zero zero = refl
 none_set (suc n) zero = refl
 none_set zero (suc k) = none_set zero k
@@ -121,19 +135,19 @@ or_false : (b : Bool) → (b || false) ≡ b
 or_false true = refl
 or_false false = refl
 
-anchors_left_lem : (p : Anchor → Bool) (xs : List Anchor) → any_of is_set (map p xs) ≡ not (is_empty (filtered p xs))
+anchors_left_lem : (p : Anchor → Bool) (xs : List Anchor) → list_any is_set (map p xs) ≡ not (is_empty (filter p xs))
 anchors_left_lem p [] = refl
 anchors_left_lem p (x ∷ xs) = go (p x) (anchors_left_lem p xs)
   where
-    go : (b : Bool) → any_of is_set (map p xs) ≡ not (is_empty (filtered p xs)) → (b || any_of is_set (map p xs)) ≡ not (is_empty (cond b (x ∷ filtered p xs) (filtered p xs)))
+    go : (b : Bool) → list_any is_set (map p xs) ≡ not (is_empty (filter p xs)) → (b || list_any is_set (map p xs)) ≡ not (is_empty (cond b (x ∷ filter p xs) (filter p xs)))
     go true e = refl
     go false e = e
 
-rows_left_lem : (p : Anchor → Bool) (ws : List TopologyRow) → any_of is_set (row_flags p ws) ≡ not (is_empty (filtered has_anchors (map (passing p) ws)))
+rows_left_lem : (p : Anchor → Bool) (ws : List TopologyRow) → list_any is_set (row_flags p ws) ≡ not (is_empty (filter has_anchors (map (passing p) ws)))
 rows_left_lem p [] = refl
 rows_left_lem p (w ∷ ws) = any_append (map p w.anchors) (row_flags p ws) ∙ ap₂ ◌||◌ (anchors_left_lem p w.anchors) (rows_left_lem p ws) ∙ go (has_anchors (passing p w))
   where
-    go : (b : Bool) → (b || not (is_empty (filtered has_anchors (map (passing p) ws)))) ≡ not (is_empty (cond b (passing p w ∷ filtered has_anchors (map (passing p) ws)) (filtered has_anchors (map (passing p) ws))))
+    go : (b : Bool) → (b || not (is_empty (filter has_anchors (map (passing p) ws)))) ≡ not (is_empty (cond b (passing p w ∷ filter has_anchors (map (passing p) ws)) (filter has_anchors (map (passing p) ws))))
     go true = refl
     go false = refl
 
@@ -141,19 +155,19 @@ some_left : (b : Bool) (y : TopologyLayer) (ys : List TopologyLayer) → (b || l
 some_left true y ys = sym (le-leb 1 (suc (length ys)) (omega arith))
 some_left false y ys = refl
 
-layers_left : (t : ℕ → TopologyLayer → Anchor → Bool) (i : ℕ) (ys : List TopologyLayer) → any_of is_set (layer_flags t i ys) ≡ leb 1 (length (filtered has_rows (passing_from t i ys)))
+layers_left : (t : ℕ → TopologyLayer → Anchor → Bool) (i : ℕ) (ys : List TopologyLayer) → list_any is_set (layer_flags t i ys) ≡ leb 1 (length (filter has_rows (passing_from t i ys)))
 layers_left t i [] = refl
 layers_left t i (y ∷ ys) =
-    let z : TopologyLayer = record { z = y.z; rows = filtered has_anchors (map (passing (t i y)) y.rows) } in
+    let z : TopologyLayer = record { z = y.z; rows = filter has_anchors (map (passing (t i y)) y.rows) } in
     any_append (row_flags (t i y) y.rows) (layer_flags t (suc i) ys)
     ∙ ap₂ ◌||◌ (rows_left_lem (t i y) y.rows) (layers_left t (suc i) ys)
-    ∙ some_left (has_rows z) z (filtered has_rows (passing_from t (suc i) ys))
+    ∙ some_left (has_rows z) z (filter has_rows (passing_from t (suc i) ys))
 
-pub nine_by_flags : (s : RegionSemanticState) (r : Room) → is_default s ≡ false → any_of is_set (kept_flags s r) ≡ question9 s r
+pub nine_by_flags : (s : RegionSemanticState) (r : Room) → is_default s ≡ false → list_any is_set (kept_flags s r) ≡ question9 s r
 nine_by_flags s r e =
     let f = layer_flags (stays s r) 0 r.layers in
     any_append f (drop (length f) (replicate 24 false))
-    ∙ ap (λ (b : Bool). any_of is_set f || b) (none_set (length f) 24)
-    ∙ or_false (any_of is_set f)
+    ∙ ap (λ (b : Bool). list_any is_set f || b) (none_set (length f) 24)
+    ∙ or_false (list_any is_set f)
     ∙ layers_left (stays s r) 0 r.layers
-    ∙ ap (λ (b : Bool). leb 1 (length (cond b r (record { channels = r.channels; layers = filtered has_rows (passing_from (stays s r) 0 r.layers) })).layers)) (sym e)
+    ∙ ap (λ (b : Bool). leb 1 (length (cond b r (record { channels = r.channels; layers = filter has_rows (passing_from (stays s r) 0 r.layers) })).layers)) (sym e)

@@ -9,7 +9,7 @@ use lib.Ieee.{eq}
 use lib.ListN.{length, get_or, take, drop, set, replicate, length-set, length-map, length-append, length-take, length-drop, take-append-drop, drop_of_length-le}
 use lib.Seq.{slice, drop-set-lt, drop-cons, drop-drop, take_all, take-append_seam, drop-append-add}
 use Rattle.doubles.specs.Arithmetic.{zero64}
-use Rattle.lists.specs.Lists.{all_of}
+use Rattle.std.specs.List.{list_all}
 use Rattle.lists.proofs.Loops.{slice_more}
 use Rattle.lists.proofs.Takes.{map_take}
 use Rattle.lists.proofs.Filter.{store}
@@ -24,8 +24,13 @@ use Rattle.layout.proofs.TopologyFlat.{topology_length, topology_layer}
 use Rattle.layout.proofs.Sizes.{Sized}
 use Rattle.region.specs.declared.RegionSemanticState.{RegionSemanticState}
 use Rattle.rules.specs.declared.rule.Rule.{Rule}
-use Rattle.region.specs.Zones.{is_no_constraints}
-use Rattle.selection.specs.Selection.{five_x, is222, stays, question10, classed_layer}
+use Rattle.rules.specs.declared.rule.Rule.TheVariants.{Upper, Lower}
+use Rattle.rules.specs.Rules.{is_kept}
+use Rattle.region.specs.declared.RegionHorizontalState.{RegionHorizontalState}
+use Rattle.classes.specs.Classes.{bed_of}
+use Rattle.std.specs.Prelude.{cond}
+use Rattle.region.specs.Zones.{is_include, is_no_constraints}
+use Rattle.selection.specs.Selection.{five_x, is222, upper, keeps_all, stays, question10, classed_layer}
 use Rattle.selection.specs.Steps.{flagged_from, has_class, row_flags, layer_flags, kept_flags}
 use Rattle.rules.specs.Steps.{rule_of, stays_by}
 use Rattle.kept_anchors.proofs.Counts.{slice_past}
@@ -71,6 +76,13 @@ module _ (p : ℕ → Bool) (names : List ℕ) (at end : ℕ) (old : List Bool) 
 -- ---- the flags of the first layers
 map_slice : {A B : Type 0} (f : A → B) (a b : ℕ) (xs : List A) → map f (slice a b xs) ≡ slice a b (map f xs)
 map_slice f a b xs = map_drop f a (take b xs) ∙ ap (drop a) (map_take f b xs)
+
+-- what a rule says of each anchor
+stays_each : (up include whole five : Bool) (h : RegionHorizontalState) (xs : List Anchor) →
+    map (λ (a : Anchor). stays_by (cond up (Upper include) (Lower whole h five)) (anchor_name a)) xs
+    ≡ map (λ (a : Anchor). cond up include (whole || is_kept (bed_of h a.name five))) xs
+stays_each true include whole five h xs = refl
+stays_each false include whole five h xs = refl
 
 -- one layer more
 layers_more : (t : ℕ → TopologyLayer → Anchor → Bool) (ys : List TopologyLayer) (i k j : ℕ) (d : TopologyLayer) → j ≡ i + k → k < length ys →
@@ -125,7 +137,8 @@ module _ (l : Layout) (z : Sized l) (few : l.depth ≤ 4) where
           let rise = layer_start_rises l z i (omega arith) in
           let most = layer_start_most l z (suc i) (omega arith) in
           let m : map (stays_by (rule_of (is222 (room_of l)) (five_x (room_of l)) s (length (topology_of l)) i (get_or l.layers i no_layer).z)) (slice a b (map anchor_name l.anchors)) ≡ map p (slice a b l.anchors) =
-          ap (map (stays_by (rule_of (is222 (room_of l)) (five_x (room_of l)) s (length (topology_of l)) i (get_or l.layers i no_layer).z))) (sym (map_slice anchor_name a b l.anchors)) ∙ map-map _ anchor_name (slice a b l.anchors) in
+          ap (map (stays_by (rule_of (is222 (room_of l)) (five_x (room_of l)) s (length (topology_of l)) i (get_or l.layers i no_layer).z))) (sym (map_slice anchor_name a b l.anchors)) ∙ map-map _ anchor_name (slice a b l.anchors)
+          ∙ stays_each (upper (room_of l) i (layer_at i)) (is_include s.top) (keeps_all (room_of l) (layer_at i)) (five_x (room_of l)) s.horizontal (slice a b l.anchors) in
           let n : length (map p (slice a b l.anchors)) ≡ b - a =
           length-map (slice a b l.anchors) p ∙ length-drop a (take b l.anchors) ∙ ap (λ (k : ℕ). k - a) (length-take b l.anchors) ∙ omega (arith, z.anchors) in
           let f = before_more h in
@@ -148,29 +161,29 @@ module _ (l : Layout) (z : Sized l) (few : l.depth ≤ 4) where
 
     -- ---- question 10
     layer_test : (five : Bool) (i : ℕ) → i < l.depth →
-        classed_layer five s (layer_at i) ≡ (not (eq (layer_at i).z zero64) || all_of (has_class s.horizontal five) (slice (get_or (layer_starts l) i 0) (get_or (layer_starts l) (suc i) 0) (map anchor_name l.anchors)))
+        classed_layer five s (layer_at i) ≡ (not (eq (layer_at i).z zero64) || list_all (has_class s.horizontal five) (slice (get_or (layer_starts l) i 0) (get_or (layer_starts l) (suc i) 0) (map anchor_name l.anchors)))
     layer_test five i h =
         let p : Anchor → Bool = λ a. has_class s.horizontal five (anchor_name a) in
         ap (λ (b : Bool). not (eq (layer_at i).z zero64) || b)
-        (all_map topology_anchors (all_of p) (layer_at i).rows
+        (all_map topology_anchors (list_all p) (layer_at i).rows
         ∙ all_concat p (map topology_anchors (layer_at i).rows)
-        ∙ ap (all_of p) (layer_anchors_lem l z i (omega arith))
+        ∙ ap (list_all p) (layer_anchors_lem l z i (omega arith))
         ∙ all_map anchor_name (has_class s.horizontal five) (slice (get_or (layer_starts l) i 0) (get_or (layer_starts l) (suc i) 0) l.anchors)
-        ∙ ap (all_of (has_class s.horizontal five)) (map_slice anchor_name (get_or (layer_starts l) i 0) (get_or (layer_starts l) (suc i) 0) l.anchors))
+        ∙ ap (list_all (has_class s.horizontal five)) (map_slice anchor_name (get_or (layer_starts l) i 0) (get_or (layer_starts l) (suc i) 0) l.anchors))
 
     -- whether the layers that are left pass
     abbrev pub classed_from : Bool → ℕ → Bool
-    classed_from five i = all_of (classed_layer five s) (drop i (topology_of l))
+    classed_from five i = list_all (classed_layer five s) (drop i (topology_of l))
 
     pub classed_more : (five r : Bool) (i : ℕ) → i < l.depth →
-        r ≡ (not (eq (get_or l.layers i no_layer).z zero64) || all_of (has_class s.horizontal five) (slice (get_or (layer_starts l) i 0) (get_or (layer_starts l) (i + 1) 0) (map anchor_name l.anchors))) →
+        r ≡ (not (eq (get_or l.layers i no_layer).z zero64) || list_all (has_class s.horizontal five) (slice (get_or (layer_starts l) i 0) (get_or (layer_starts l) (i + 1) 0) (map anchor_name l.anchors))) →
         classed_from five i ≡ (r && classed_from five (i + 1))
     classed_more five r i h er =
         let q = rw add-one at er in
         rw (add-one, drop-cons (topology_of l) i (layer_at i) (omega (arith, many)), here i h, layer_test five i h, ← q)
 
     pub classed_done : (five : Bool) (i : ℕ) → l.depth ≤ i → classed_from five i ≡ true
-    classed_done five i h = ap (all_of (classed_layer five s)) (drop_of_length-le (topology_of l) {i = i} (omega (arith, many)))
+    classed_done five i h = ap (list_all (classed_layer five s)) (drop_of_length-le (topology_of l) {i = i} (omega (arith, many)))
 
     pub classed_all : (free five b : Bool) → free ≡ is_no_constraints s.horizontal → free ≡ false → five ≡ five_x (room_of l) → classed_from five 0 ≡ b → b ≡ question10 s (room_of l)
     classed_all free five b e f g q = sym q ∙ rw (sym e ∙ f, g)

@@ -7,7 +7,8 @@ use native.Mathlib.Omega.{arith}
 use lib.Ieee.{binary64, to_bits}
 use lib.ListN.{length, set, length-map, length-append}
 use lib.Seq.{slice, take_all}
-use Rattle.lists.specs.Lists.{flatten, filtered, total}
+use Rattle.lists.specs.Lists.{flatten, total}
+use Rattle.std.specs.List.{filter}
 use Rattle.layout.specs.declared.Anchor.{Anchor}
 use Rattle.layout.specs.Steps.Accepted.{Accepted}
 use Rattle.layout.specs.Room.{Room, rows_in, anchors_in}
@@ -141,4 +142,4 @@ module _ (key : List ℕ) (long : length key ≡ 156) (w : Words key) (ac : Acce
       ap₂ (λ (l : List ℕ) (k : ℕ). set l 153 k)
       (ap₂ (λ (k : ℕ) (l : List ℕ). anchors_picked k kept l) anchors_counted f2
       ∙ ap₂ (λ (a b : List ℕ). parts_over 76 128 m a b rows_over) (ap (picked kept) names_stay ∙ of anchor_name) (ap (picked kept) xs_stay ∙ of x_bits))
-      (ap (λ (l : List ℕ). length (filtered is_positive l)) rows_left_lem ∙ ap length (filter_picked is_positive (rows_kept kept ys)) ∙ sym (kept_number kept ys))
+      (ap (λ (l : List ℕ). length (filter is_positive l)) rows_left_lem ∙ ap length (filter_picked is_positive (rows_kept kept ys)) ∙ sym (kept_number kept ys))

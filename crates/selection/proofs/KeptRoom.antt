@@ -10,7 +10,8 @@ use borrow.Author.Tests.{ne_eqb}
 use lib.Ieee.{Float}
 use lib.ListN.{length, take, drop, length-map}
 use lib.Seq.{drop-drop, take-append_seam, drop-append_seam}
-use Rattle.lists.specs.Lists.{bit, filtered, flatten}
+use Rattle.lists.specs.Lists.{bit, flatten}
+use Rattle.std.specs.List.{filter}
 use Rattle.layout.specs.declared.Anchor.{Anchor}
 use Rattle.layout.specs.Topology.{TopologyRow, TopologyLayer}
 use Rattle.layout.proofs.TopologyStarts.{topology_anchors, topology_rows}
@@ -34,11 +35,11 @@ picked_append (b ∷ bs) [] ys = refl
 picked_append {A = A} (true ∷ bs) (x ∷ xs) ys = ap (λ (l : List A). x ∷ l) (picked_append bs xs ys)
 picked_append (false ∷ bs) (x ∷ xs) ys = picked_append bs xs ys
 
-filter_append : {A : Type 0} (p : A → Bool) (xs ys : List A) → filtered p (xs ++ ys) ≡ filtered p xs ++ filtered p ys
+filter_append : {A : Type 0} (p : A → Bool) (xs ys : List A) → filter p (xs ++ ys) ≡ filter p xs ++ filter p ys
 filter_append p [] ys = refl
 filter_append {A = A} p (x ∷ xs) ys = go (p x) (filter_append p xs ys)
   where
-    go : (b : Bool) → filtered p (xs ++ ys) ≡ filtered p xs ++ filtered p ys → cond b (x ∷ filtered p (xs ++ ys)) (filtered p (xs ++ ys)) ≡ cond b (x ∷ filtered p xs) (filtered p xs) ++ filtered p ys
+    go : (b : Bool) → filter p (xs ++ ys) ≡ filter p xs ++ filter p ys → cond b (x ∷ filter p (xs ++ ys)) (filter p (xs ++ ys)) ≡ cond b (x ∷ filter p xs) (filter p xs) ++ filter p ys
     go true e = ap (λ (l : List A). x ∷ l) e
     go false e = e
 
@@ -49,11 +50,11 @@ picked_count (b ∷ bs) [] = refl
 picked_count (true ∷ bs) (x ∷ xs) = rw one-add (ap suc (picked_count bs xs))
 picked_count (false ∷ bs) (x ∷ xs) = rw zero-add (picked_count bs xs)
 
-filter_count : {A : Type 0} (p : A → Bool) (xs : List A) → length (filtered p xs) ≡ count_set (map p xs)
+filter_count : {A : Type 0} (p : A → Bool) (xs : List A) → length (filter p xs) ≡ count_set (map p xs)
 filter_count p [] = refl
 filter_count p (x ∷ xs) = go (p x) (filter_count p xs)
   where
-    go : (b : Bool) → length (filtered p xs) ≡ count_set (map p xs) → length (cond b (x ∷ filtered p xs) (filtered p xs)) ≡ bit b + count_set (map p xs)
+    go : (b : Bool) → length (filter p xs) ≡ count_set (map p xs) → length (cond b (x ∷ filter p xs) (filter p xs)) ≡ bit b + count_set (map p xs)
     go true e = rw one-add (ap suc e)
     go false e = rw zero-add e
 
@@ -67,7 +68,7 @@ module _ {A : Type 0} (p : A → Bool) (count : A → ℕ) (same : (x : A) → p
   positives [] = refl
   positives (x ∷ xs) = ap₂ (λ (b : Bool) (l : List Bool). b ∷ l) (same x) (positives xs)
 
-  filter_of : {B : Type 0} (f : A → B) (xs : List A) → map f (filtered p xs) ≡ picked (map is_positive (map count xs)) (map f xs)
+  filter_of : {B : Type 0} (f : A → B) (xs : List A) → map f (filter p xs) ≡ picked (map is_positive (map count xs)) (map f xs)
   filter_of f xs = ap (map f) (filter_picked p xs) ∙ map_picked f (map p xs) xs ∙ ap (λ (b : List Bool). picked b (map f xs)) (positives xs)
 
 -- ---- rows
@@ -91,11 +92,11 @@ rows_long bs [] = refl
 rows_long bs (w ∷ ws) = ap suc (rows_long (drop (length w.anchors) bs) ws)
 
 -- a row without anchors has none
-rows_filled_lem : (ws : List TopologyRow) → row_anchors (filtered has_anchors ws) ≡ row_anchors ws
+rows_filled_lem : (ws : List TopologyRow) → row_anchors (filter has_anchors ws) ≡ row_anchors ws
 rows_filled_lem [] = refl
 rows_filled_lem (w ∷ ws) = go w.y w.anchors (rows_filled_lem ws)
   where
-    go : (y : _) (l : List Anchor) → row_anchors (filtered has_anchors ws) ≡ row_anchors ws → row_anchors (cond (not (is_empty l)) (record { y = y; anchors = l } ∷ filtered has_anchors ws) (filtered has_anchors ws)) ≡ l ++ row_anchors ws
+    go : (y : _) (l : List Anchor) → row_anchors (filter has_anchors ws) ≡ row_anchors ws → row_anchors (cond (not (is_empty l)) (record { y = y; anchors = l } ∷ filter has_anchors ws) (filter has_anchors ws)) ≡ l ++ row_anchors ws
     go y [] e = e
     go y (a ∷ l) e = ap (λ (t : List Anchor). a ∷ (l ++ t)) e
 
@@ -113,17 +114,17 @@ layers_picked_lem bs (y ∷ ys) =
     ap (λ (t : List TopologyRow). picked_rows bs y.rows ++ t) (layers_picked_lem (drop (anchor_number y.rows) bs) ys)
     ∙ sym (picked_rows_append bs y.rows (layer_rows ys))
 
-layers_rows : (ys : List TopologyLayer) → layer_rows (map without_empty_rows ys) ≡ filtered has_anchors (layer_rows ys)
+layers_rows : (ys : List TopologyLayer) → layer_rows (map without_empty_rows ys) ≡ filter has_anchors (layer_rows ys)
 layers_rows [] = refl
 layers_rows (y ∷ ys) =
-    ap (λ (t : List TopologyRow). filtered has_anchors y.rows ++ t) (layers_rows ys)
+    ap (λ (t : List TopologyRow). filter has_anchors y.rows ++ t) (layers_rows ys)
     ∙ sym (filter_append has_anchors y.rows (layer_rows ys))
 
-layers_filled : (ys : List TopologyLayer) → layer_rows (filtered has_rows ys) ≡ layer_rows ys
+layers_filled : (ys : List TopologyLayer) → layer_rows (filter has_rows ys) ≡ layer_rows ys
 layers_filled [] = refl
 layers_filled (y ∷ ys) = go y.z y.rows (layers_filled ys)
   where
-    go : (z : _) (ws : List TopologyRow) → layer_rows (filtered has_rows ys) ≡ layer_rows ys → layer_rows (cond (not (is_empty ws)) (record { z = z; rows = ws } ∷ filtered has_rows ys) (filtered has_rows ys)) ≡ ws ++ layer_rows ys
+    go : (z : _) (ws : List TopologyRow) → layer_rows (filter has_rows ys) ≡ layer_rows ys → layer_rows (cond (not (is_empty ws)) (record { z = z; rows = ws } ∷ filter has_rows ys) (filter has_rows ys)) ≡ ws ++ layer_rows ys
     go z [] e = e
     go z (w ∷ ws) e = ap (λ (t : List TopologyRow). w ∷ (ws ++ t)) e
 
@@ -153,11 +154,11 @@ module _ (bs : List Bool) (ys : List TopologyLayer) where
   abbrev pub rows_kept : List ℕ
   rows_kept = counts_of (map rows_of_layer ys) (map is_positive anchors_kept)
 
-  pub kept_rows : layer_rows (kept_topology bs ys) ≡ filtered has_anchors (picked_rows bs (layer_rows ys))
+  pub kept_rows : layer_rows (kept_topology bs ys) ≡ filter has_anchors (picked_rows bs (layer_rows ys))
   kept_rows =
       layers_filled (map without_empty_rows (picked_layers bs ys))
       ∙ layers_rows (picked_layers bs ys)
-      ∙ ap (filtered has_anchors) (layers_picked_lem bs ys)
+      ∙ ap (filter has_anchors) (layers_picked_lem bs ys)
 
   pub kept_anchors_lem : row_anchors (layer_rows (kept_topology bs ys)) ≡ picked bs (row_anchors (layer_rows ys))
   kept_anchors_lem = ap row_anchors kept_rows ∙ rows_filled_lem (picked_rows bs (layer_rows ys)) ∙ rows_picked_lem bs (layer_rows ys)

@@ -7,26 +7,26 @@ use native.Mathlib.Omega.{arith}
 use lib.Ieee.{Float, nan}
 use lib.ListN.{length, get_or, take, drop, get_or-map}
 use lib.Seq.{slice, get_or-take, get_or-drop, take-take, length-slice}
-use Rattle.lists.specs.Lists.{any_of}
+use Rattle.std.specs.List.{list_any}
 use Rattle.lists.proofs.Chunks.{slice_take}
 use Rattle.lists.proofs.Takes.{map_take}
 use Rattle.layout.specs.declared.Layout.{Layout}
 use Rattle.layout.specs.Steps.Accepted.{Accepted}
 use Rattle.layout.specs.Channels.{channels_of, channel_name}
 use Rattle.layout.specs.Room.{room_of}
-use Rattle.layout.specs.Topology.{used_rows, used_anchors, layer_count, layer_z, row_count, anchor_name}
+use Rattle.layout.specs.Topology.{used_anchors, layer_z, anchor_name}
 use Rattle.layout.specs.Steps.Starts.{no_layer}
 use Rattle.layout.proofs.Sizes.{Sized}
 use Rattle.layout.proofs.TopologyLists.{take_taken}
 use Rattle.keys.specs.InKey.{double, layout_in}
-use Rattle.keys.proofs.InKey.{names_are, layer_counts_are, zs_are, row_counts_are, anchor_names_are, sized as in-sized}
+use Rattle.keys.proofs.InKey.{names_are, zs_are, anchor_names_are, sized as in-sized}
 use Rattle.classes.specs.Classes.{outside_five, is_flc}
 use Rattle.selection.specs.Selection.{five_x, is222}
 
 pub mapped : {A B : Type 0} (f : A → B) (m : ℕ) (xs : List A) → map f (take m xs) ≡ take (length (take m xs)) (map f xs)
 mapped f m xs = ap (map f) (sym (take_taken m xs)) ∙ map_take f (length (take m xs)) xs
 
-at_part : (key : List ℕ) (a n i : ℕ) → i < n → get_or (slice a (a + n) key) i 0 ≡ get_or key (a + i) 0
+pub at_part : (key : List ℕ) (a n i : ℕ) → i < n → get_or (slice a (a + n) key) i 0 ≡ get_or key (a + i) 0
 at_part key a n i h = ap (λ (l : List ℕ). get_or l i 0) (slice_take a n key) ∙ get_or-take n (drop a key) i 0 h ∙ get_or-drop a key i 0
 
 get_or_map_in : {B : Type 0} (f : ℕ → B) (xs : List ℕ) (i d : ℕ) (b : B) → i < length xs → get_or (map f xs) i b ≡ f (get_or xs i d)
@@ -58,19 +58,13 @@ module _ {l : Layout} {key : List ℕ} {used depth : ℕ} (g : Given l key used 
       ∙ take-take l.used 24 key g.accepted.few_channels
       ∙ ap (λ (n : ℕ). take n key) (sym g.channels))
 
-  pub five_is : not (any_of outside_five (take used key)) ≡ five_x (room_of l)
-  five_is = ap (λ (ns : List ℕ). not (any_of outside_five ns)) key_names
+  pub five_is : not (list_any outside_five (take used key)) ≡ five_x (room_of l)
+  five_is = ap (λ (ns : List ℕ). not (list_any outside_five ns)) key_names
 
-  pub flc_is : any_of is_flc (take used key) ≡ is222 (room_of l)
-  flc_is = ap (any_of is_flc) key_names
+  pub flc_is : list_any is_flc (take used key) ≡ is222 (room_of l)
+  flc_is = ap (list_any is_flc) key_names
 
   -- ---- the layers, the rows and the anchors
-  pub key_count : (i : ℕ) → i < l.depth → get_or key (48 + i) 0 ≡ (get_or l.layers i no_layer).count
-  key_count i h =
-      sym (at_part key 48 4 i (omega (arith, few)))
-      ∙ ap (λ (v : List ℕ). get_or v i 0) (sym (ap (λ (x : Layout). map layer_count x.layers) g.is ∙ layer_counts_are key g.long))
-      ∙ get_or-map layer_count l.layers i no_layer
-
   pub key_z : (i : ℕ) → i < l.depth → double (get_or key (100 + i) 0) ≡ (get_or l.layers i no_layer).z
   key_z i h =
       let j : i < length (slice 100 104 key) = omega (arith, h, few, length-slice 100 104 key (omega (arith, g.long))) in
@@ -78,11 +72,6 @@ module _ {l : Layout} {key : List ℕ} {used depth : ℕ} (g : Given l key used 
       ∙ sym (get_or_map_in double (slice 100 104 key) i 0 nan j)
       ∙ ap (λ (v : List Float). get_or v i nan) (sym (ap (λ (x : Layout). map layer_z x.layers) g.is ∙ zs_are key g.long))
       ∙ get_or-map layer_z l.layers i no_layer
-
-  pub key_rows : (a b : ℕ) → b ≤ length (used_rows l) → slice a b (drop 52 key) ≡ slice a b (map row_count l.rows)
-  key_rows a b h =
-      let n : length (used_rows l) ≤ 24 = g.accepted.most_rows in
-      ap (drop a) (sym (take-take b 24 (drop 52 key) (omega arith)) ∙ ap (take b) (sym (slice_take 52 24 key) ∙ sym (ap (λ (x : Layout). map row_count x.rows) g.is ∙ row_counts_are key g.long)))
 
   pub key_anchors : (a b : ℕ) → b ≤ length (used_anchors l) → slice a b (drop 76 key) ≡ slice a b (map anchor_name l.anchors)
   key_anchors a b h =

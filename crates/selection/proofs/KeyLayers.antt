@@ -1,23 +1,25 @@
--- The layers of an accepted layout, one after another in its key: where each begins, its flags and its classes.
-use Prim.Native.Nat.{ℕ, zero, suc, ◌+◌, ◌<◌, ◌≤◌, min}
+-- The layers of an accepted layout, one after another in its key: their anchors, flags and classes.
+use Prim.Native.Nat.{ℕ, suc, ◌+◌, ◌<◌, ◌≤◌}
 use mathlib.Core.Path.{◌≡◌, refl, sym, ap, ap₂, ◌∙◌}
 use mathlib.Core.Bool.{Bool, not, true, false, ◌&&◌, ◌||◌}
-use mathlib.Core.List.{List, [], ◌∷◌, ◌++◌, map}
+use mathlib.Core.List.{List, ◌++◌, map}
 use native.Mathlib.Numerals.{add-one}
 use native.Mathlib.Omega.{arith}
 use lib.Ieee.{Float, eq}
 use lib.ListN.{length, get_or, take, drop, replicate}
 use lib.Seq.{slice}
+use Rattle.std.specs.Prelude.{slice_range}
 use Rattle.doubles.specs.Arithmetic.{zero64}
-use Rattle.lists.specs.Lists.{all_of, any_of, total}
+use Rattle.lists.specs.Lists.{total}
+use Rattle.std.specs.List.{list_all, list_any}
 use Rattle.layout.specs.declared.Layout.{Layout}
 use Rattle.layout.specs.Steps.Accepted.{Accepted}
 use Rattle.layout.specs.Topology.{used_layers, used_rows, used_anchors, layer_count, row_count, anchor_name}
 use Rattle.layout.specs.Steps.Starts.{row_starts, layer_starts}
 use Rattle.layout.proofs.TopologyLists.{total_within}
-use Rattle.layout.proofs.TopologyRanges.{row_next, row_most}
-use Rattle.layout.proofs.TopologyStarts.{starts_first}
+use Rattle.layout.proofs.TopologyRanges.{row_most}
 use Rattle.keys.specs.InKey.{double, layout_in, room_in}
+use Rattle.keys.proofs.InKey.{used_is, depth_is}
 use Rattle.region.specs.declared.RegionSemanticState.{RegionSemanticState}
 use Rattle.region.specs.Zones.{is_no_constraints}
 use Rattle.classes.specs.Classes.{outside_five, is_flc}
@@ -26,143 +28,134 @@ use Rattle.rules.specs.Steps.{rule_of, stays_by}
 use Rattle.selection.specs.Selection.{question10}
 use Rattle.selection.specs.Steps.{kept_flags, flagged_from, has_class}
 use Rattle.selection.proofs.FlagLayers.{Layered, layered_none, layered_more, layered_done, classed_from, classed_more, classed_done as done, classed_all}
-use Rattle.selection.proofs.LayerAnchors.{layer_start, layer_start_first}
-use Rattle.selection.proofs.KeyEntries.{mapped, Given, sized, few, five_is, flc_is, key_count, key_z, key_rows, key_anchors}
+use Rattle.selection.proofs.LayerAnchors.{layer_start, layer_start_rises, layer_start_most}
+use Rattle.selection.proofs.KeyStarts.{part_within}
+use Rattle.selection.proofs.KeyEntries.{mapped, Given, sized, few, five_is, flc_is, key_z, key_anchors}
 
--- ---- sums of counts
-total_split : (a b : ℕ) (ns : List ℕ) → a ≤ b → total (take b ns) ≡ total (take a ns) + total (slice a b ns)
-total_split zero b ns h = omega arith
-total_split (suc a) zero ns h = absurd (omega arith)
-total_split (suc a) (suc b) [] h = omega arith
-total_split (suc a) (suc b) (n ∷ ns) h = let r = total_split a b ns (omega arith) in omega arith
+-- ---- what the code is given
+pub given : (key : List ℕ) → length key ≡ 156 → Accepted (layout_in key) → Given (layout_in key) key (get_or key 152 0) (get_or key 153 0)
+given key long a = record { is = refl; long = long; accepted = a; channels = sym (used_is key long); layers = sym (depth_is key long) }
 
--- where the rows and the anchors of layer i begin
-pub record Begins (l : Layout) (row at i : ℕ) : Type 0 where
-  pub rows : row ≡ get_or (row_starts l) i 0
-  pub anchors : at ≡ get_or (layer_starts l) i 0
+pub depth_few : (key : List ℕ) → length key ≡ 156 → Accepted (layout_in key) → get_or key 153 0 ≤ 4
+depth_few key long a = omega (arith, depth_is key long, a.few_layers)
 
-module _ {l : Layout} {key : List ℕ} {used depth : ℕ} (g : Given l key used depth) where
-  begins_first : Begins l 0 0 0
-  begins_first = record { rows = sym (starts_first (map layer_count l.layers) 0); anchors = sym (layer_start_first l (sized g)) }
+pub used_few : (key : List ℕ) → length key ≡ 156 → Accepted (layout_in key) → get_or key 152 0 ≤ 24
+used_few key long a = omega (arith, used_is key long, a.few_channels)
 
-  module _ (row at i : ℕ) (w : Begins l row at i) (h : i < depth) (rows end : ℕ) (p : rows ≡ min (row + get_or key (48 + i) 0) 24) (q : end ≡ min (at + total (slice row rows (drop 52 key))) 24) where
-    inside : i < l.depth
-    inside = omega (arith, g.layers)
+module _ {l : Layout} {key : List ℕ} {used depth : ℕ} (g : Given l key used depth) (i : ℕ) (h : i < depth) where
+  abbrev at : ℕ
+  at = get_or (layer_starts l) i 0
 
-    most : get_or (row_starts l) (suc i) 0 ≤ length (used_rows l)
-    most = row_most l (sized g).layers (sized g).rows g.accepted (suc i) inside
+  abbrev end : ℕ
+  end = get_or (layer_starts l) (i + 1) 0
 
-    next_rows : rows ≡ get_or (row_starts l) (suc i) 0
-    next_rows =
-        omega (arith, p, w.rows, key_count g i inside, row_next l (sized g).layers (sized g).rows g.accepted i inside, most, g.accepted.most_rows)
+  inside : i < l.depth
+  inside = omega (arith, g.layers)
 
-    next_anchors : end ≡ get_or (layer_starts l) (suc i) 0
-    next_anchors =
-        let a = get_or (row_starts l) i 0 in
-        let b = get_or (row_starts l) (suc i) 0 in
-        let ns = map row_count l.rows in
-        let s = ap total (key_rows g row rows (omega (arith, next_rows, most))) ∙ ap₂ (λ (m : ℕ) (n : ℕ). total (slice m n ns)) w.rows next_rows in
-        let t = total_split a b ns (omega (arith, row_next l (sized g).layers (sized g).rows g.accepted i inside)) in
-        omega (arith, q, w.anchors, s, t, layer_start l (sized g) i (omega (arith, few g, inside)), layer_start l (sized g) (suc i) (omega (arith, few g, inside)))
+  end_is : end ≡ get_or (layer_starts l) (suc i) 0
+  end_is = rw add-one
 
-    begins_next : Begins l rows end (i + 1)
-    begins_next = rw add-one (record { rows = next_rows; anchors = next_anchors })
+  pub rises : at ≤ end
+  rises = omega (arith, end_is, layer_start_rises l (sized g) i (omega (arith, few g, inside)))
 
-    fits : end ≤ length (used_anchors l)
-    fits =
-        let n = length (used_rows l) in
-        let ns = map row_count l.rows in
-        let t = ap total (mapped row_count (total (map layer_count (used_layers l))) l.rows) in
-        omega (arith, next_anchors, layer_start l (sized g) (suc i) (omega (arith, few g, inside)), total_within (get_or (row_starts l) (suc i) 0) n ns most, t, g.accepted.anchor_total)
+  pub most : end ≤ 24
+  most = omega (arith, end_is, layer_start_most l (sized g) (suc i) (omega (arith, few g, inside)))
 
-    -- the names of the layer's anchors
-    names : slice at end (drop 76 key) ≡ slice (get_or (layer_starts l) i 0) (get_or (layer_starts l) (i + 1) 0) (map anchor_name l.anchors)
-    names =
-        key_anchors g at end fits
-        ∙ ap₂ (λ (m : ℕ) (n : ℕ). slice m n (map anchor_name l.anchors)) w.anchors begins_next.anchors
+  fits : end ≤ length (used_anchors l)
+  fits =
+      let n = length (used_rows l) in
+      let ns = map row_count l.rows in
+      let t = ap total (mapped row_count (total (map layer_count (used_layers l))) l.rows) in
+      let m = row_most l (sized g).layers (sized g).rows g.accepted (suc i) inside in
+      omega (arith, end_is, layer_start l (sized g) (suc i) (omega (arith, few g, inside)), total_within (get_or (row_starts l) (suc i) 0) n ns m, t, g.accepted.anchor_total)
 
-    module _ (s : RegionSemanticState) where
-      flags_next : (kept r : List Bool) (rule : Rule) (flc five : Bool) → Layered l (sized g) (few g) s kept i →
-          r ≡ flagged_from (stays_by rule) (drop 76 key) at end kept →
-          rule ≡ rule_of flc five s depth i (double (get_or key (100 + i) 0)) → flc ≡ any_of is_flc (take used key) → five ≡ not (any_of outside_five (take used key)) → Layered l (sized g) (few g) s r (i + 1)
-      flags_next kept r rule flc five v er eu ew ef =
-          let joined : List Bool → List Bool → List Bool = λ x y. x ++ y in
-          layered_more l (sized g) (few g) s kept i v r rule flc five inside
-          (er ∙ ap₂ joined (ap (λ (n : ℕ). take n kept) w.anchors) (ap₂ joined (ap (map (stays_by rule)) names) (ap (λ (n : ℕ). drop n kept) begins_next.anchors)))
-          (eu ∙ ap₂ (λ (d : ℕ) (z : Float). rule_of flc five s d i z) g.layers (key_z g i inside))
-          (ew ∙ flc_is g)
-          (ef ∙ five_is g)
+  -- the names of the layer's anchors
+  names : slice at end (drop 76 key) ≡ slice at end (map anchor_name l.anchors)
+  names = key_anchors g at end fits
 
-      classed_next : (five r : Bool) →
-          r ≡ (not (eq (double (get_or key (100 + i) 0)) zero64) || all_of (has_class s.horizontal five) (slice at end (drop 76 key))) →
-          classed_from l (sized g) (few g) s five i ≡ (r && classed_from l (sized g) (few g) s five (i + 1))
-      classed_next five r er =
-          classed_more l (sized g) (few g) s five r i inside
-          (er ∙ ap₂ (λ (z : Float) (ns : List ℕ). not (eq z zero64) || all_of (has_class s.horizontal five) ns) (key_z g i inside) names)
+  part : slice_range key (76 + at) (76 + end) ≡ slice at end (drop 76 key)
+  part = part_within key 76 at end rises
+
+  module _ (s : RegionSemanticState) where
+    pub flags_next : (kept r : List Bool) (rule : Rule) (flc five : Bool) → Layered l (sized g) (few g) s kept i →
+        r ≡ flagged_from (stays_by rule) (drop 76 key) at end kept →
+        rule ≡ rule_of flc five s depth i (double (get_or key (100 + i) 0)) → flc ≡ list_any is_flc (take used key) → five ≡ not (list_any outside_five (take used key)) → Layered l (sized g) (few g) s r (i + 1)
+    flags_next kept r rule flc five v er eu ew ef =
+        layered_more l (sized g) (few g) s kept i v r rule flc five inside
+        (er ∙ ap (λ (ns : List Bool). take at kept ++ (ns ++ drop end kept)) (ap (map (stays_by rule)) names))
+        (eu ∙ ap₂ (λ (d : ℕ) (z : Float). rule_of flc five s d i z) g.layers (key_z g i inside))
+        (ew ∙ flc_is g)
+        (ef ∙ five_is g)
+
+    pub classed_next : (five r : Bool) →
+        r ≡ (not (eq (double (get_or key (100 + i) 0)) zero64) || list_all (has_class s.horizontal five) (slice_range key (76 + at) (76 + end))) →
+        classed_from l (sized g) (few g) s five i ≡ (r && classed_from l (sized g) (few g) s five (i + 1))
+    classed_next five r er =
+        classed_more l (sized g) (few g) s five r i inside
+        (er ∙ ap₂ (λ (z : Float) (ns : List ℕ). not (eq z zero64) || list_all (has_class s.horizontal five) ns) (key_z g i inside) (part ∙ names))
 
 -- ---- the loops over the layers
-module _ (key : List ℕ) (used depth : ℕ) (s : RegionSemanticState) where
+module _ (key : List ℕ) (s : RegionSemanticState) where
+  -- the key holds an accepted room
+  abbrev Room : Layout → Type 0
+  Room l = Given l key (get_or key 152 0) (get_or key 153 0)
+
   -- the flags of the first i layers are written
-  abbrev pub FlagsTo : List Bool → ℕ → ℕ → ℕ → Type 0
-  FlagsTo kept row at i =
-      (l : Layout) (g : Given l key used depth) → Begins l row at i × Layered l (sized g) (few g) s kept i
+  abbrev pub FlagsTo : List Bool → ℕ → Type 0
+  FlagsTo kept i = (l : Layout) (g : Room l) → Layered l (sized g) (few g) s kept i
 
-  pub flags_none : (kept : List Bool) → kept ≡ replicate 24 false → FlagsTo kept 0 0 0
-  flags_none kept q l g = (begins_first g, rw q (layered_none l (sized g) (few g) s))
+  pub flags_none : FlagsTo (replicate 24 false) 0
+  flags_none l g = layered_none l (sized g) (few g) s
 
-  -- whether the layers that are left have classes
-  abbrev left : (l : Layout) → Given l key used depth → Bool → ℕ → Bool
-  left l g five i = classed_from l (sized g) (few g) s five i
-
-  abbrev pub ClassedFrom : Bool → ℕ → ℕ → ℕ → Type 0
-  ClassedFrom five row at i = (l : Layout) (g : Given l key used depth) → Begins l row at i × (left l g five 0 ≡ left l g five i)
-
-  -- what the layers that are left answer
-  abbrev pub Left : Bool → ℕ → Bool → Type 0
-  Left five i b = (l : Layout) (g : Given l key used depth) → left l g five i ≡ b
-
-  pub classed_none : (five : Bool) → ClassedFrom five 0 0 0
-  classed_none five l g = (begins_first g, refl)
-
-  module _ (row at i rows end : ℕ) (h : i < depth) (p : rows ≡ min (row + get_or key (48 + i) 0) 24) (q : end ≡ min (at + total (slice row rows (drop 52 key))) 24) where
-    pub flags_more : (kept r : List Bool) (rule : Rule) (flc five : Bool) → FlagsTo kept row at i →
-        r ≡ flagged_from (stays_by rule) (drop 76 key) at end kept →
-        rule ≡ rule_of flc five s depth i (double (get_or key (100 + i) 0)) → flc ≡ any_of is_flc (take used key) → five ≡ not (any_of outside_five (take used key)) → FlagsTo r rows end (i + 1)
-    flags_more kept r rule flc five f er eu ew ef l g =
-        let v = f l g in (
-          begins_next g row at i v.0 h rows end p q,
-          flags_next g row at i v.0 h rows end p q s kept r rule flc five v.1 er eu ew ef,
-        )
-
-    module _ (five r : Bool) (f : ClassedFrom five row at i) (er : r ≡ (not (eq (double (get_or key (100 + i) 0)) zero64) || all_of (has_class s.horizontal five) (slice at end (drop 76 key)))) where
-      one : (b : Bool) → r ≡ b → (l : Layout) (g : Given l key used depth) → left l g five i ≡ (b && left l g five (i + 1))
-      one b t l g =
-          classed_next g row at i (f l g).0 h rows end p q s five r er
-          ∙ ap (λ (c : Bool). c && left l g five (i + 1)) t
-
-      pub classed_not : r ≡ false → Left five i false
-      classed_not t l g = one false t l g
-
-      pub classed_step : r ≡ true → ClassedFrom five rows end (i + 1)
-      classed_step t l g =
-          let v = f l g in
-          (begins_next g row at i v.0 h rows end p q, v.1 ∙ one true t l g)
+  -- one layer more, whose anchors begin and end where the starts say
+  pub flags_more : (starts : List ℕ) → starts ≡ layer_starts (layout_in key) → (kept r : List Bool) (i : ℕ) (rule : Rule) (flc five : Bool) (z : Float) → i < get_or key 153 0 → FlagsTo kept i →
+      r ≡ flagged_from (stays_by rule) (drop 76 key) (get_or starts i 0) (get_or starts (i + 1) 0) kept →
+      rule ≡ rule_of flc five s (get_or key 153 0) i z → z ≡ double (get_or key (100 + i) 0) → flc ≡ list_any is_flc (take (get_or key 152 0) key) → five ≡ not (list_any outside_five (take (get_or key 152 0) key)) → FlagsTo r (i + 1)
+  flags_more starts e kept r i rule flc five z h f er eu ez ew ef l g =
+      let q : starts ≡ layer_starts l = e ∙ ap layer_starts (sym g.is) in
+      flags_next g i h s kept r rule flc five (f l g)
+      (er ∙ ap (λ (v : List ℕ). flagged_from (stays_by rule) (drop 76 key) (get_or v i 0) (get_or v (i + 1) 0) kept) q)
+      (eu ∙ ap (rule_of flc five s (get_or key 153 0) i) ez)
+      ew ef
 
   -- at the end all are written
-  pub flags_done : (kept : List Bool) (row at i : ℕ) → FlagsTo kept row at i → depth ≤ i →
-      length key ≡ 156 → Accepted (layout_in key) → used ≡ (layout_in key).used → depth ≡ (layout_in key).depth → kept ≡ kept_flags s (room_in key)
-  flags_done kept row at i f h p a u d =
-      let l = layout_in key in
-      let g : Given l key used depth = record { is = refl; long = p; accepted = a; channels = u; layers = d } in
-      layered_done l (sized g) (few g) s kept i (f l g).1 (omega arith)
+  pub flags_done : length key ≡ 156 → Accepted (layout_in key) → (kept : List Bool) (i : ℕ) → FlagsTo kept i → get_or key 153 0 ≤ i → kept ≡ kept_flags s (room_in key)
+  flags_done long a kept i f h =
+      let g = given key long a in
+      layered_done (layout_in key) (sized g) (few g) s kept i (f _ g) (omega (arith, g.layers))
 
-  -- at the end none is left
-  pub classed_done : (five : Bool) (i : ℕ) → depth ≤ i → Left five i true
-  classed_done five i h l g = done l (sized g) (few g) s five i (omega (arith, g.layers))
+  -- whether the layers that are left have classes
+  abbrev left : (l : Layout) → Room l → Bool → ℕ → Bool
+  left l g five i = classed_from l (sized g) (few g) s five i
 
-  pub classed_answer : (free five b : Bool) (row at i : ℕ) → ClassedFrom five row at i → free ≡ is_no_constraints s.horizontal → free ≡ false → five ≡ not (any_of outside_five (take used key)) → Left five i b →
-      length key ≡ 156 → Accepted (layout_in key) → used ≡ (layout_in key).used → depth ≡ (layout_in key).depth → b ≡ question10 s (room_in key)
-  classed_answer free five b row at i f ef n ev q p a u d =
-      let l = layout_in key in
-      let g : Given l key used depth = record { is = refl; long = p; accepted = a; channels = u; layers = d } in
-      classed_all l (sized g) (few g) s free five b ef n (ev ∙ five_is g) ((f l g).1 ∙ q l g)
+  abbrev pub ClassedFrom : Bool → ℕ → Type 0
+  ClassedFrom five i = (l : Layout) (g : Room l) → left l g five 0 ≡ left l g five i
+
+  pub classed_none : (five : Bool) → ClassedFrom five 0
+  classed_none five l g = refl
+
+  -- one layer more
+  module _ (starts : List ℕ) (e : starts ≡ layer_starts (layout_in key)) (five r : Bool) (i : ℕ) (z : Float) (h : i < get_or key 153 0) (ez : z ≡ double (get_or key (100 + i) 0))
+      (er : r ≡ (not (eq z zero64) || list_all (has_class s.horizontal five) (slice_range key (76 + get_or starts i 0) (76 + get_or starts (i + 1) 0)))) where
+    one : (l : Layout) (g : Room l) → left l g five i ≡ (r && left l g five (i + 1))
+    one l g =
+        let q : starts ≡ layer_starts l = e ∙ ap layer_starts (sym g.is) in
+        classed_next g i h s five r
+        (er ∙ ap₂ (λ (x : Float) (v : List ℕ). not (eq x zero64) || list_all (has_class s.horizontal five) (slice_range key (76 + get_or v i 0) (76 + get_or v (i + 1) 0))) ez q)
+
+    pub classed_step : ClassedFrom five i → r ≡ true → ClassedFrom five (i + 1)
+    classed_step f t l g = f l g ∙ one l g ∙ ap (λ (b : Bool). b && left l g five (i + 1)) t
+
+    pub classed_not : (long : length key ≡ 156) (a : Accepted (layout_in key)) → r ≡ false → left (layout_in key) (given key long a) five i ≡ false
+    classed_not long a t = let g = given key long a in one _ g ∙ ap (λ (b : Bool). b && left (layout_in key) g five (i + 1)) t
+
+  module _ (long : length key ≡ 156) (a : Accepted (layout_in key)) where
+    -- what the layers that are left answer is the answer
+    pub classed_answer : (free five b : Bool) (i : ℕ) → ClassedFrom five i → free ≡ is_no_constraints s.horizontal → free ≡ false → five ≡ not (list_any outside_five (take (get_or key 152 0) key)) →
+        left (layout_in key) (given key long a) five i ≡ b → b ≡ question10 s (room_in key)
+    classed_answer free five b i f ef n ev q =
+        let g = given key long a in
+        classed_all (layout_in key) (sized g) (few g) s free five b ef n (ev ∙ five_is g) (f _ g ∙ q)
+
+    pub classed_done : (five : Bool) (i : ℕ) → get_or key 153 0 ≤ i → left (layout_in key) (given key long a) five i ≡ true
+    classed_done five i h = let g = given key long a in done (layout_in key) (sized g) (few g) s five i (omega (arith, g.layers))

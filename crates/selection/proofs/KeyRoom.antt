@@ -13,7 +13,8 @@ use lib.Seq.{slice, get_or-drop}
 use mir.Facts.{and_yes, yes_and}
 use Rattle.doubles.specs.Arithmetic.{one64, minus_one64}
 use Rattle.doubles.specs.Range.{is_between}
-use Rattle.lists.specs.Lists.{all_of, chain, total}
+use Rattle.lists.specs.Lists.{chain, total}
+use Rattle.std.specs.List.{list_all}
 use Rattle.lists.proofs.Chunks.{slice_take, slice_front}
 use Rattle.lists.proofs.Takes.{map_take}
 use Rattle.lists.proofs.Zips.{map-map}
@@ -43,10 +44,10 @@ number (fin s m e) h = tt
 abbrev pub Words : List ℕ → Type 0
 Words key = (i : ℕ) → get_or key i 0 < 18446744073709551616
 
-exact : (bs : List ℕ) → Words bs → T (all_of in_room (map double bs)) → map (to_bits binary64) (map double bs) ≡ bs
+exact : (bs : List ℕ) → Words bs → T (list_all in_room (map double bs)) → map (to_bits binary64) (map double bs) ≡ bs
 exact [] w h = refl
 exact (b ∷ bs) w h =
-    let p = and_yes (in_room (double b)) (all_of in_room (map double bs)) h in
+    let p = and_yes (in_room (double b)) (list_all in_room (map double bs)) h in
     ap₂ (λ (n : ℕ) (l : List ℕ). n ∷ l)
     (to_bits-of_bits binary64 b (w 0) (number (double b) (and_yes (finite (double b)) (is_between minus_one64 one64 (double b)) p.0).0))
     (exact bs (λ i. w (suc i)) p.1)
@@ -65,10 +66,10 @@ module _ (key : List ℕ) (long : length key ≡ 156) (w : Words key) where
       (below n i (drop a key) (λ j. subst (λ (m : ℕ). m < 18446744073709551616) (sym (get_or-drop a key j 0)) (w (a + j))))
 
   -- the bits of the first m of a part's doubles
-  bits : (a m most : ℕ) (fs gs : List Float) → m ≤ most → gs ≡ map double (slice a (a + most) key) → fs ≡ take m gs → T (all_of in_room fs) → map (to_bits binary64) fs ≡ slice a (a + m) key
+  bits : (a m most : ℕ) (fs gs : List Float) → m ≤ most → gs ≡ map double (slice a (a + most) key) → fs ≡ take m gs → T (list_all in_room fs) → map (to_bits binary64) fs ≡ slice a (a + m) key
   bits a m most fs gs h p q r =
       let e : fs ≡ map double (slice a (a + m) key) = q ∙ ap (take m) p ∙ sym (map_take double m (slice a (a + most) key)) ∙ ap (map double) (slice_front key a m most h) in
-      ap (map (to_bits binary64)) e ∙ exact (slice a (a + m) key) (part_words a m) (subst (λ (l : List Float). T (all_of in_room l)) e r)
+      ap (map (to_bits binary64)) e ∙ exact (slice a (a + m) key) (part_words a m) (subst (λ (l : List Float). T (list_all in_room l)) e r)
 
   module _ (ac : Accepted (layout_in key)) where
     abbrev l : Layout
@@ -110,7 +111,7 @@ module _ (key : List ℕ) (long : length key ≡ 156) (w : Words key) where
     -- the coordinates
     yes5 : T (question5 l)
     unfolding question5
-    yes5 = yes_and (ordered (map topology_z (topology_of l))) (all_of ordered_layer (topology_of l)) ac.z_ordered ac.layers_ordered
+    yes5 = yes_and (ordered (map topology_z (topology_of l))) (list_all ordered_layer (topology_of l)) ac.z_ordered ac.layers_ordered
 
     ys_of : map topology_y (rows_in (room_in key)) ≡ map row_y (used_rows l)
     ys_of = ap (map topology_y) (topology_rows_lem l) ∙ rows_y (used_rows l) l.anchors
@@ -119,7 +120,7 @@ module _ (key : List ℕ) (long : length key ≡ 156) (w : Words key) where
     zs_in =
         sym
         (map-map topology_z (to_bits binary64) (topology_of l)
-        ∙ bits 100 (length (topology_of l)) 4 (map topology_z (topology_of l)) (map layer_z l.layers) layers_few (zs_are key long) (topology_z_lem l ∙ ap (λ (n : ℕ). take n (map layer_z l.layers)) (sym (depth_is l s ac))) (and_yes (all_of in_room (map topology_z (topology_of l))) (chain lt (map topology_z (topology_of l))) ac.z_ordered).0)
+        ∙ bits 100 (length (topology_of l)) 4 (map topology_z (topology_of l)) (map layer_z l.layers) layers_few (zs_are key long) (topology_z_lem l ∙ ap (λ (n : ℕ). take n (map layer_z l.layers)) (sym (depth_is l s ac))) (and_yes (list_all in_room (map topology_z (topology_of l))) (chain lt (map topology_z (topology_of l))) ac.z_ordered).0)
 
     pub ys_in_key : slice 104 (104 + length (rows_in (room_in key))) key ≡ map y_bits (rows_in (room_in key))
     ys_in_key =
@@ -127,7 +128,7 @@ module _ (key : List ℕ) (long : length key ≡ 156) (w : Words key) where
         (map-map topology_y (to_bits binary64) (rows_in (room_in key))
         ∙ bits 104 (length (rows_in (room_in key))) 24 (map topology_y (rows_in (room_in key))) (map row_y l.rows) rows_few (ys_are key long)
         (ys_of ∙ map_take row_y (total (map layer_count (used_layers l))) l.rows ∙ ap (λ (n : ℕ). take n (map row_y l.rows)) (sym rows_number))
-        (subst (λ (v : List Float). T (all_of in_room v)) (sym ys_of) (ys_in_room l yes5)))
+        (subst (λ (v : List Float). T (list_all in_room v)) (sym ys_of) (ys_in_room l yes5)))
 
     pub xs_in_key : slice 128 (128 + length (anchors_in (room_in key))) key ≡ map x_bits (anchors_in (room_in key))
     xs_in_key =
@@ -135,4 +136,4 @@ module _ (key : List ℕ) (long : length key ≡ 156) (w : Words key) where
         (map-map anchor_x (to_bits binary64) (anchors_in (room_in key))
         ∙ bits 128 (length (anchors_in (room_in key))) 24 (map anchor_x (anchors_in (room_in key))) (map anchor_x l.anchors) anchors_few (xs_are key long)
         (ap (map anchor_x) (anchors_are l) ∙ map_take anchor_x (total (map row_count (used_rows l))) l.anchors ∙ ap (λ (n : ℕ). take n (map anchor_x l.anchors)) (sym anchors_number))
-        (subst (λ (v : List Float). T (all_of in_room v)) (sym (ap (map anchor_x) (anchors_are l))) (xs_in_room l yes5)))
+        (subst (λ (v : List Float). T (list_all in_room v)) (sym (ap (map anchor_x) (anchors_are l))) (xs_in_room l yes5)))

@@ -56,13 +56,13 @@ rows_part a b rs xs h =
 
 -- ---- of a layout
 module _ (l : Layout) (z : Sized l) where
-  row_start_lem : (i : ℕ) → i ≤ 4 → get_or (row_starts l) i 0 ≡ min (total (take i (map layer_count l.layers))) 24
+  pub row_start_lem : (i : ℕ) → i ≤ 4 → get_or (row_starts l) i 0 ≡ min (total (take i (map layer_count l.layers))) 24
   row_start_lem i h = let n = length-map l.layers layer_count in starts_sum 0 (map layer_count l.layers) i (omega arith) (omega (arith, z.layers)) ∙ omega arith
 
-  row_start_most : (i : ℕ) → i ≤ 4 → get_or (row_starts l) i 0 ≤ 24
+  pub row_start_most : (i : ℕ) → i ≤ 4 → get_or (row_starts l) i 0 ≤ 24
   row_start_most i h = omega (arith, row_start_lem i h)
 
-  row_start_rises : (i : ℕ) → i < 4 → get_or (row_starts l) i 0 ≤ get_or (row_starts l) (suc i) 0
+  pub row_start_rises : (i : ℕ) → i < 4 → get_or (row_starts l) i 0 ≤ get_or (row_starts l) (suc i) 0
   row_start_rises i h = omega (arith, row_start_lem i (omega arith), row_start_lem (suc i) h, total_within i (suc i) (map layer_count l.layers) (omega arith))
 
   pub layer_start : (i : ℕ) → i ≤ 4 → get_or (layer_starts l) i 0 ≡ min (total (take (get_or (row_starts l) i 0) (map row_count l.rows))) 24

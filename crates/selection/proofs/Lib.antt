@@ -1,12 +1,10 @@
 pub mod Tested
 pub mod LayerAnchors
 pub mod FlagLayers
-pub mod KeyNames
-pub mod KeySums
 pub mod KeyEntries
+pub mod KeyStarts
 pub mod KeyLayers
 pub mod KeptRoom
 pub mod KeyRoom
 pub mod KeptKey
-pub mod SetFlags
 pub mod Answers

@@ -5,7 +5,8 @@ use mathlib.Core.Bool.{Bool, cond}
 use mathlib.Core.List.{List, [], ◌∷◌, ◌++◌, map, map-append, append_assoc}
 use lib.ListN.{length, drop}
 use lib.Seq.{drop-drop}
-use Rattle.lists.specs.Lists.{filtered, flatten}
+use Rattle.lists.specs.Lists.{flatten}
+use Rattle.std.specs.List.{filter}
 use Rattle.layout.specs.declared.Anchor.{Anchor}
 use Rattle.layout.specs.Topology.{TopologyRow, TopologyLayer}
 use Rattle.layout.proofs.TopologyStarts.{topology_anchors}
@@ -14,7 +15,7 @@ use Rattle.kept_anchors.specs.Steps.Kept.{picked}
 use Rattle.selection.specs.Steps.{picked_rows, anchor_number, picked_layers, without_empty_rows, kept_topology, row_flags, layer_flags}
 
 module _ (p : Anchor → Bool) where
-  picked_answers : (xs : List Anchor) (bs : List Bool) → picked (map p xs ++ bs) xs ≡ filtered p xs
+  picked_answers : (xs : List Anchor) (bs : List Bool) → picked (map p xs ++ bs) xs ≡ filter p xs
   picked_answers [] [] = refl
   picked_answers [] (b ∷ bs) = refl
   picked_answers (x ∷ xs) bs = ap (λ (l : List Anchor). cond (p x) (x ∷ l) l) (picked_answers xs bs)
@@ -51,11 +52,11 @@ module _ (test : ℕ → TopologyLayer → Anchor → Bool) where
   layers_tested i (l ∷ ls) bs =
       let cs = layer_flags test (suc i) ls in
       let e = append_assoc (row_flags (test i l) l.rows) cs bs in
-      ap₂ {C = List TopologyLayer} (λ (t : List TopologyRow) (u : List TopologyLayer). record { z = l.z; rows = filtered has_anchors t } ∷ u)
+      ap₂ {C = List TopologyLayer} (λ (t : List TopologyRow) (u : List TopologyLayer). record { z = l.z; rows = filter has_anchors t } ∷ u)
       (ap (λ (b : List Bool). picked_rows b l.rows) e ∙ rows_tested (test i l) l.rows (cs ++ bs))
       (ap (λ (b : List Bool). map without_empty_rows (picked_layers (drop (anchor_number l.rows) b) ls)) e
       ∙ ap (λ (b : List Bool). map without_empty_rows (picked_layers b ls)) (drop_rows (test i l) l.rows (cs ++ bs))
       ∙ layers_tested (suc i) ls bs)
 
-  pub kept_tested : (ls : List TopologyLayer) (bs : List Bool) → kept_topology (layer_flags test 0 ls ++ bs) ls ≡ filtered has_rows (passing_from test 0 ls)
-  kept_tested ls bs = ap (filtered has_rows) (layers_tested 0 ls bs)
+  pub kept_tested : (ls : List TopologyLayer) (bs : List Bool) → kept_topology (layer_flags test 0 ls ++ bs) ls ≡ filter has_rows (passing_from test 0 ls)
+  kept_tested ls bs = ap (filter has_rows) (layers_tested 0 ls bs)

@@ -4,7 +4,7 @@ use Rattle.std.specs.Prelude.{ℕ, suc, ◌+◌, Bool, false, cond, List, [], �
 use Rattle.std.specs.Float.{binary64}
 use Rattle.std.specs.Float.Ieee.{to_bits}
 use Rattle.std.proofs.Math.Seq.{slice}
-use Rattle.lists.specs.Lists.{filtered}
+use Rattle.std.specs.List.{filter}
 use Rattle.layout.specs.declared.Anchor.{Anchor}
 use Rattle.layout.specs.Topology.{TopologyRow, TopologyLayer, anchor_name, anchor_x}
 use Rattle.layout.specs.Questions.{Question, first_no, layout_questions, topology_y, topology_z}
@@ -92,10 +92,10 @@ picked_layers flags (y ∷ ys) =
 
 -- empty rows and layers go
 abbrev pub without_empty_rows : TopologyLayer → TopologyLayer
-without_empty_rows y = record { z = y.z; rows = filtered has_anchors y.rows }
+without_empty_rows y = record { z = y.z; rows = filter has_anchors y.rows }
 
 abbrev pub kept_topology : List Bool → List TopologyLayer → List TopologyLayer
-kept_topology flags ys = filtered has_rows (map without_empty_rows (picked_layers flags ys))
+kept_topology flags ys = filter has_rows (map without_empty_rows (picked_layers flags ys))
 
 abbrev pub kept_room : List Bool → Room → Room
 kept_room flags r = record { channels = r.channels; layers = kept_topology flags r.layers }

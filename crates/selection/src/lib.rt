@@ -3,5 +3,6 @@
 
 mod flags;
 mod selection;
+mod starts;
 
 pub use selection::derive_selected_layout;

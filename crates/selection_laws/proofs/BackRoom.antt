@@ -11,7 +11,8 @@ use lib.ListN.{length, length-map}
 use mir.Facts.{and_yes}
 use Rattle.doubles.specs.Arithmetic.{◌⊕◌, zero64}
 use Rattle.doubles.proofs.Alike.{blind, lt_same, same_lt}
-use Rattle.lists.specs.Lists.{all_of, filtered, flatten}
+use Rattle.lists.specs.Lists.{flatten}
+use Rattle.std.specs.List.{list_all, filter}
 use Rattle.layout.specs.declared.Anchor.{Anchor}
 use Rattle.layout.specs.Room.{Room, rows_in, anchors_in}
 use Rattle.layout.specs.Topology.{TopologyRow, TopologyLayer, anchor_name}
@@ -75,11 +76,11 @@ module _ (r : Room) where
   xs_back = ap (map x_bits) anchors_back ∙ map_both (with_x back) x_bits x_pat (λ a. bits_back a.x) (anchors_in r)
 
 -- ---- what is selected
-filter_map : {A : Type 0} (f : A → A) (p q : A → Bool) → ((x : A) → p (f x) ≡ q x) → (xs : List A) → filtered p (map f xs) ≡ map f (filtered q xs)
+filter_map : {A : Type 0} (f : A → A) (p q : A → Bool) → ((x : A) → p (f x) ≡ q x) → (xs : List A) → filter p (map f xs) ≡ map f (filter q xs)
 filter_map f p q h [] = refl
 filter_map {A} f p q h (x ∷ xs) = ap₂ (λ (b : Bool) (v : List A). cond b (f x ∷ v) v) (h x) (filter_map f p q h xs) ∙ go (q x)
   where
-    go : (b : Bool) → cond b (f x ∷ map f (filtered q xs)) (map f (filtered q xs)) ≡ map f (cond b (x ∷ filtered q xs) (filtered q xs))
+    go : (b : Bool) → cond b (f x ∷ map f (filter q xs)) (map f (filter q xs)) ≡ map f (cond b (x ∷ filter q xs) (filter q xs))
     go true = refl
     go false = refl
 
@@ -113,27 +114,27 @@ module _ (s : RegionSemanticState) (r : Room) where
   passing_back i y h (w ∷ ws) =
       ap₂ (λ (v : List Anchor) (vs : List TopologyRow). record { y = back w.y; anchors = v } ∷ vs) (filter_map (with_x back) (stays s (back_room r) i (mapped_layer back y)) (stays s r i y) (stays_back i y h) w.anchors) (passing_back i y h ws)
 
-  from_back : (i : ℕ) (ys : List TopologyLayer) → T (all_of (fits binary64) (map topology_z ys)) → passing_from (stays s (back_room r)) i (map (mapped_layer back) ys) ≡ map (mapped_layer back) (passing_from (stays s r) i ys)
+  from_back : (i : ℕ) (ys : List TopologyLayer) → T (list_all (fits binary64) (map topology_z ys)) → passing_from (stays s (back_room r)) i (map (mapped_layer back) ys) ≡ map (mapped_layer back) (passing_from (stays s r) i ys)
   from_back i [] h = refl
   from_back i (y ∷ ys) h =
-      let p = and_yes (fits binary64 y.z) (all_of (fits binary64) (map topology_z ys)) h in
+      let p = and_yes (fits binary64 y.z) (list_all (fits binary64) (map topology_z ys)) h in
       ap₂ (λ (ws : List TopologyRow) (us : List TopologyLayer). record { z = back y.z; rows = ws } ∷ us)
-      (ap (filtered has_anchors) (passing_back i y p.0 y.rows) ∙ filter_map (mapped_row back) has_anchors has_anchors has_anchors_lem (map (passing (stays s r i y)) y.rows))
+      (ap (filter has_anchors) (passing_back i y p.0 y.rows) ∙ filter_map (mapped_row back) has_anchors has_anchors has_anchors_lem (map (passing (stays s r i y)) y.rows))
       (from_back (suc i) ys p.1)
 
-  module _ (fit : T (all_of (fits binary64) (map topology_z r.layers))) where
+  module _ (fit : T (list_all (fits binary64) (map topology_z r.layers))) where
     pub selected_back : selected_room s (back_room r) ≡ back_room (selected_room s r)
     selected_back = go (is_default s)
       where
-        go : (b : Bool) → cond b (back_room r) (record { channels = r.channels; layers = filtered has_rows (passing_from (stays s (back_room r)) 0 (map (mapped_layer back) r.layers)) }) ≡ back_room (cond b r (record { channels = r.channels; layers = filtered has_rows (passing_from (stays s r) 0 r.layers) }))
+        go : (b : Bool) → cond b (back_room r) (record { channels = r.channels; layers = filter has_rows (passing_from (stays s (back_room r)) 0 (map (mapped_layer back) r.layers)) }) ≡ back_room (cond b r (record { channels = r.channels; layers = filter has_rows (passing_from (stays s r) 0 r.layers) }))
         go true = refl
-        go false = ap (λ (ys : List TopologyLayer). record { channels = r.channels; layers = ys }) (ap (filtered has_rows) (from_back 0 r.layers fit) ∙ filter_map (mapped_layer back) has_rows has_rows has_rows_lem (passing_from (stays s r) 0 r.layers))
+        go false = ap (λ (ys : List TopologyLayer). record { channels = r.channels; layers = ys }) (ap (filter has_rows) (from_back 0 r.layers fit) ∙ filter_map (mapped_layer back) has_rows has_rows has_rows_lem (passing_from (stays s r) 0 r.layers))
 
     -- ---- what is asked
     pub nine_back : question9 s (back_room r) ≡ question9 s r
     nine_back = ap (λ (q : Room). leb 1 (length q.layers)) selected_back ∙ ap (leb 1) (layers_number (selected_room s r))
 
-    all_back : {A : Type 0} (f : A → A) (p q : A → Bool) → ((x : A) → p (f x) ≡ q x) → (v : List A) → all_of p (map f v) ≡ all_of q v
+    all_back : {A : Type 0} (f : A → A) (p q : A → Bool) → ((x : A) → p (f x) ≡ q x) → (v : List A) → list_all p (map f v) ≡ list_all q v
     all_back f p q h [] = refl
     all_back f p q h (x ∷ v) = ap₂ ◌&&◌ (h x) (all_back f p q h v)
 
@@ -142,10 +143,10 @@ module _ (s : RegionSemanticState) (r : Room) where
         let classed : Anchor → Bool = λ a. is_classed (bed_of s.horizontal a.name (five_x r)) in
         all_back (with_x back) classed classed (λ a. refl) w.anchors
 
-    layers_classed : (ys : List TopologyLayer) → T (all_of (fits binary64) (map topology_z ys)) → all_of (classed_layer (five_x r) s) (map (mapped_layer back) ys) ≡ all_of (classed_layer (five_x r) s) ys
+    layers_classed : (ys : List TopologyLayer) → T (list_all (fits binary64) (map topology_z ys)) → list_all (classed_layer (five_x r) s) (map (mapped_layer back) ys) ≡ list_all (classed_layer (five_x r) s) ys
     layers_classed [] h = refl
     layers_classed (y ∷ ys) h =
-        let p = and_yes (fits binary64 y.z) (all_of (fits binary64) (map topology_z ys)) h in
+        let p = and_yes (fits binary64 y.z) (list_all (fits binary64) (map topology_z ys)) h in
         ap₂ ◌&&◌ (ap₂ (λ (a b : Bool). not a || b) (eq_same y.z p.0) (all_back (mapped_row back) (classed_row (five_x r) s) (classed_row (five_x r) s) row_back y.rows)) (layers_classed ys p.1)
 
     pub ten_back : question10 s (back_room r) ≡ question10 s r

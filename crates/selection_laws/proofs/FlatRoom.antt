@@ -8,7 +8,8 @@ use lib.Dec.{T}
 use lib.Ieee.{Float, binary64, fits}
 use lib.ListN.{length, take, drop, length-map, length-append, length-drop}
 use lib.Seq.{take-append_seam, drop-append_seam}
-use Rattle.lists.specs.Lists.{all_of, total}
+use Rattle.lists.specs.Lists.{total}
+use Rattle.std.specs.List.{list_all}
 use Rattle.layout.specs.declared.Channel.{Channel}
 use Rattle.layout.specs.declared.Layer.{Layer}
 use Rattle.layout.specs.declared.Row.{Row}
@@ -123,32 +124,32 @@ module _ (q : Room) where
       }
 
   -- ---- its coordinates are doubles where the room's are
-  fits_padded : {A : Type 0} (f : A → Float) (blank xs : List A) → T (all_of (λ (x : A). fits binary64 (f x)) blank) → T (all_of (λ (x : A). fits binary64 (f x)) xs) → T (all_of (fits binary64) (map f (padded blank xs)))
+  fits_padded : {A : Type 0} (f : A → Float) (blank xs : List A) → T (list_all (λ (x : A). fits binary64 (f x)) blank) → T (list_all (λ (x : A). fits binary64 (f x)) xs) → T (list_all (fits binary64) (map f (padded blank xs)))
   fits_padded {A} f blank xs b h =
       let p : A → Bool = λ x. fits binary64 (f x) in
       all_map p (fits binary64) f (λ x k. k) (padded blank xs) (all_append p xs (drop (length xs) blank) h (all_dropped p (length xs) blank b))
 
-  blank_zs : T (all_of (λ y. fits binary64 (layer_z y)) empty_layout.layers)
+  blank_zs : T (list_all (λ y. fits binary64 (layer_z y)) empty_layout.layers)
   unfolding fits
   blank_zs = tt
 
-  pub flat_zs : T (all_of (fits binary64) (map topology_z q.layers)) → T (all_of (fits binary64) (map layer_z m.layers))
+  pub flat_zs : T (list_all (fits binary64) (map topology_z q.layers)) → T (list_all (fits binary64) (map layer_z m.layers))
   flat_zs h =
       fits_padded layer_z empty_layout.layers (map flat_layer q.layers) blank_zs
       (all_map (λ y. fits binary64 (topology_z y)) (λ y. fits binary64 (layer_z y)) flat_layer (λ y k. k) q.layers (all_unmap (fits binary64) topology_z q.layers h))
 
-  blank_ys : T (all_of (λ r. fits binary64 (row_y r)) empty_layout.rows)
+  blank_ys : T (list_all (λ r. fits binary64 (row_y r)) empty_layout.rows)
   unfolding fits
   blank_ys = tt
 
-  pub flat_ys : T (all_of (fits binary64) (map topology_y (rows_in q))) → T (all_of (fits binary64) (map row_y m.rows))
+  pub flat_ys : T (list_all (fits binary64) (map topology_y (rows_in q))) → T (list_all (fits binary64) (map row_y m.rows))
   flat_ys h =
       fits_padded row_y empty_layout.rows (map flat_row (rows_in q)) blank_ys
       (all_map (λ w. fits binary64 (topology_y w)) (λ r. fits binary64 (row_y r)) flat_row (λ w k. k) (rows_in q) (all_unmap (fits binary64) topology_y (rows_in q) h))
 
-  blank_xs : T (all_of (λ a. fits binary64 (anchor_x a)) empty_layout.anchors)
+  blank_xs : T (list_all (λ a. fits binary64 (anchor_x a)) empty_layout.anchors)
   unfolding fits
   blank_xs = tt
 
-  pub flat_xs : T (all_of (fits binary64) (map anchor_x (anchors_in q))) → T (all_of (fits binary64) (map anchor_x m.anchors))
+  pub flat_xs : T (list_all (fits binary64) (map anchor_x (anchors_in q))) → T (list_all (fits binary64) (map anchor_x m.anchors))
   flat_xs h = fits_padded anchor_x empty_layout.anchors (anchors_in q) blank_xs (all_unmap (fits binary64) anchor_x (anchors_in q) h)

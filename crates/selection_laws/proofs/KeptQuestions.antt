@@ -9,7 +9,8 @@ use lib.Dec.{T, eqb, leb, leb→le, le→leb}
 use lib.Ieee.{Float, binary64, fits}
 use lib.ListN.{length, take, drop, length-map}
 use mir.Facts.{and_yes, yes_and}
-use Rattle.lists.specs.Lists.{all_of, any_of, elem, all_distinct, filtered, total, bit}
+use Rattle.lists.specs.Lists.{elem, all_distinct, total, bit}
+use Rattle.std.specs.List.{list_all, list_any, filter}
 use Rattle.lists.proofs.Takes.{map_take}
 use Rattle.layout.specs.declared.Channel.{Channel}
 use Rattle.layout.specs.declared.Layout.{Layout}
@@ -50,12 +51,12 @@ positive_most : (n : ℕ) → is_positive n ≡ true → 1 ≤ n
 positive_most zero e = let z : ⊥ = eqb-false 0 0 (not-true (eqb 0 0) e) refl in absurd z
 positive_most (suc n) e = omega arith
 
-positive_all : (cs : List ℕ) → T (all_of (leb 1) (filtered is_positive cs))
+positive_all : (cs : List ℕ) → T (list_all (leb 1) (filter is_positive cs))
 positive_all [] = tt
 positive_all (c ∷ cs) = go (is_positive c) refl (positive_all cs)
   where
-    go : (b : Bool) → is_positive c ≡ b → T (all_of (leb 1) (filtered is_positive cs)) → T (all_of (leb 1) (cond b (c ∷ filtered is_positive cs) (filtered is_positive cs)))
-    go true e h = yes_and (leb 1 c) (all_of (leb 1) (filtered is_positive cs)) (le→leb 1 c (positive_most c e)) h
+    go : (b : Bool) → is_positive c ≡ b → T (list_all (leb 1) (filter is_positive cs)) → T (list_all (leb 1) (cond b (c ∷ filter is_positive cs) (filter is_positive cs)))
+    go true e h = yes_and (leb 1 c) (list_all (leb 1) (filter is_positive cs)) (le→leb 1 c (positive_most c e)) h
     go false e h = h
 
 bit_most : (b : Bool) → bit b ≤ 1
@@ -67,20 +68,20 @@ count_take zero bs = omega arith
 count_take (suc c) [] = omega arith
 count_take (suc c) (b ∷ bs) = omega (arith, bit_most b, count_take c bs)
 
-within_step : (m n k : ℕ) (rest : List ℕ) → k ≤ n → T (from_to 1 m n) → T (all_of (from_to 1 m) rest) → T (all_of (from_to 1 m) (cond (is_positive k) (k ∷ rest) rest))
+within_step : (m n k : ℕ) (rest : List ℕ) → k ≤ n → T (from_to 1 m n) → T (list_all (from_to 1 m) rest) → T (list_all (from_to 1 m) (cond (is_positive k) (k ∷ rest) rest))
 within_step m n k rest c f h = go (is_positive k) refl
   where
-    go : (b : Bool) → is_positive k ≡ b → T (all_of (from_to 1 m) (cond b (k ∷ rest) rest))
+    go : (b : Bool) → is_positive k ≡ b → T (list_all (from_to 1 m) (cond b (k ∷ rest) rest))
     go true e =
-        yes_and (from_to 1 m k) (all_of (from_to 1 m) rest)
+        yes_and (from_to 1 m k) (list_all (from_to 1 m) rest)
         (yes_and (leb 1 k) (leb k m) (le→leb 1 k (positive_most k e)) (le→leb k m (omega (arith, c, leb→le n m (and_yes (leb 1 n) (leb n m) f).1))))
         h
     go false e = h
 
-counts_within : (m : ℕ) (ns : List ℕ) (bs : List Bool) → T (all_of (from_to 1 m) ns) → T (all_of (from_to 1 m) (filtered is_positive (counts_of ns bs)))
+counts_within : (m : ℕ) (ns : List ℕ) (bs : List Bool) → T (list_all (from_to 1 m) ns) → T (list_all (from_to 1 m) (filter is_positive (counts_of ns bs)))
 counts_within m [] bs h = tt
 counts_within m (n ∷ ns) bs h =
-    let e = and_yes (from_to 1 m n) (all_of (from_to 1 m) ns) h in
+    let e = and_yes (from_to 1 m n) (list_all (from_to 1 m) ns) h in
     within_step m n (count_set (take n bs)) _ (count_take n bs) e.0 (counts_within m ns (drop n bs) e.1)
 
 module _ (l : Layout) (s : Sized l) (a : Accepted l) (bs : List Bool) where
@@ -113,9 +114,9 @@ module _ (l : Layout) (s : Sized l) (a : Accepted l) (bs : List Bool) where
       }
 
   -- ---- coordinates stay doubles
-  module _ (zs : T (all_of (fits binary64) (map layer_z l.layers))) (us : T (all_of (fits binary64) (map row_y l.rows))) (xs : T (all_of (fits binary64) (map anchor_x l.anchors))) where
+  module _ (zs : T (list_all (fits binary64) (map layer_z l.layers))) (us : T (list_all (fits binary64) (map row_y l.rows))) (xs : T (list_all (fits binary64) (map anchor_x l.anchors))) where
     abbrev Fit : List Float → Type 0
-    Fit v = T (all_of (fits binary64) v)
+    Fit v = T (list_all (fits binary64) v)
 
     pub lent_zs : Fit (map topology_z ys)
     lent_zs = subst Fit (sym (topology_z_lem l)) (all_taken (fits binary64) l.depth (map layer_z l.layers) zs)
@@ -144,7 +145,7 @@ module _ (l : Layout) (s : Sized l) (a : Accepted l) (bs : List Bool) where
     yes_1 : question1 m ≡ true
     unfolding question1
     yes_1 =
-        ap₂ (λ (n : ℕ) (cs : List Channel). from_to 1 24 n && all_of valid_name (map channel_name cs) && all_distinct (map channel_name cs)) (used_is l s a) (flat_channels q)
+        ap₂ (λ (n : ℕ) (cs : List Channel). from_to 1 24 n && list_all valid_name (map channel_name cs) && all_distinct (map channel_name cs)) (used_is l s a) (flat_channels q)
         ∙ (all_yes l e).0
 
     yes_2 : question2 m ≡ true
@@ -154,37 +155,37 @@ module _ (l : Layout) (s : Sized l) (a : Accepted l) (bs : List Bool) where
         yes _ (yes_and (leb 1 n) (leb n 4) (le→leb 1 n some) (le→leb n 4 few))
 
     yes_3 : question3 m ≡ true
-    yes_3 = ap (any_of active) (flat_channels q) ∙ (all_yes l e).2
+    yes_3 = ap (list_any active) (flat_channels q) ∙ (all_yes l e).2
 
     yes_4 : question4 m ≡ true
     unfolding question4
     yes_4 =
         let ns = map layer_count (used_layers l) in
         let ms = map row_count (used_rows l) in
-        let old = and_yes (all_of (from_to 1 6) ns && all_of (leb 1) ms) (leb (total ms) 24) (holds _ (all_yes l e).3) in
-        let h : T (all_of (from_to 1 6) (map rows_of_layer ys)) = subst (λ (v : List ℕ). T (all_of (from_to 1 6) v)) (sym (layer_counts_lem l s a)) (and_yes (all_of (from_to 1 6) ns) (all_of (leb 1) ms) old.0).0 in
+        let old = and_yes (list_all (from_to 1 6) ns && list_all (leb 1) ms) (leb (total ms) 24) (holds _ (all_yes l e).3) in
+        let h : T (list_all (from_to 1 6) (map rows_of_layer ys)) = subst (λ (v : List ℕ). T (list_all (from_to 1 6) v)) (sym (layer_counts_lem l s a)) (and_yes (list_all (from_to 1 6) ns) (list_all (leb 1) ms) old.0).0 in
         let cs = rows_kept bs ys in
         let ds = anchors_kept bs ys in
-        let p : T (all_of (from_to 1 6) (map layer_count (used_layers m))) = subst (λ (v : List ℕ). T (all_of (from_to 1 6) v)) (sym (flat_layer_counts q ∙ kept_layer_counts bs ys ∙ sym (filter_picked is_positive cs))) (counts_within 6 (map rows_of_layer ys) (map is_positive ds) h) in
-        let o : T (all_of (leb 1) (map row_count (used_rows m))) = subst (λ (v : List ℕ). T (all_of (leb 1) v)) (sym (flat_row_counts q ∙ kept_row_counts bs ys ∙ sym (filter_picked is_positive ds))) (positive_all ds) in
+        let p : T (list_all (from_to 1 6) (map layer_count (used_layers m))) = subst (λ (v : List ℕ). T (list_all (from_to 1 6) v)) (sym (flat_layer_counts q ∙ kept_layer_counts bs ys ∙ sym (filter_picked is_positive cs))) (counts_within 6 (map rows_of_layer ys) (map is_positive ds) h) in
+        let o : T (list_all (leb 1) (map row_count (used_rows m))) = subst (λ (v : List ℕ). T (list_all (leb 1) v)) (sym (flat_row_counts q ∙ kept_row_counts bs ys ∙ sym (filter_picked is_positive ds))) (positive_all ds) in
         let t : total (map row_count (used_rows m)) ≤ 24 = omega (arith, ap total (flat_row_counts q), concat_long (λ (w : TopologyRow). w.anchors) (rows_in q), kept_within.fewer_anchors, kept_within.anchors) in
-        yes _ (yes_and (all_of (from_to 1 6) (map layer_count (used_layers m)) && all_of (leb 1) (map row_count (used_rows m))) (leb (total (map row_count (used_rows m))) 24) (yes_and (all_of (from_to 1 6) (map layer_count (used_layers m))) (all_of (leb 1) (map row_count (used_rows m))) p o) (le→leb (total (map row_count (used_rows m))) 24 t))
+        yes _ (yes_and (list_all (from_to 1 6) (map layer_count (used_layers m)) && list_all (leb 1) (map row_count (used_rows m))) (leb (total (map row_count (used_rows m))) 24) (yes_and (list_all (from_to 1 6) (map layer_count (used_layers m))) (list_all (leb 1) (map row_count (used_rows m))) p o) (le→leb (total (map row_count (used_rows m))) 24 t))
 
     yes_5 : question5 m ≡ true
     unfolding question5
     yes_5 =
-        let h = and_yes (ordered (map topology_z ys)) (all_of ordered_layer ys) (holds _ (all_yes l e).4) in
-        ap (λ (v : List TopologyLayer). ordered (map topology_z v) && all_of ordered_layer v) (flat_topology q)
-        ∙ yes _ (yes_and (ordered (map topology_z q.layers)) (all_of ordered_layer q.layers) (kept_ordered bs ys h.0) (kept_layers bs ys h.1))
+        let h = and_yes (ordered (map topology_z ys)) (list_all ordered_layer ys) (holds _ (all_yes l e).4) in
+        ap (λ (v : List TopologyLayer). ordered (map topology_z v) && list_all ordered_layer v) (flat_topology q)
+        ∙ yes _ (yes_and (ordered (map topology_z q.layers)) (list_all ordered_layer q.layers) (kept_ordered bs ys h.0) (kept_layers bs ys h.1))
 
     yes_6 : question6 m ≡ true
     unfolding question6
     yes_6 =
         let names = map anchor_name (used_anchors l) in
         let named : ℕ → Bool = λ n. elem n (active_names l) in
-        let h : T (all_of named names) = holds _ (all_yes l e).5 in
+        let h : T (list_all named names) = holds _ (all_yes l e).5 in
         let p : map anchor_name (used_anchors m) ≡ picked bs names = ap (map anchor_name) (flat_anchors q ∙ kept_anchors_lem bs ys ∙ ap (picked bs) (anchors_are l)) ∙ map_picked anchor_name bs (used_anchors l) in
-        ap₂ (λ (cs : List Channel) (v : List ℕ). all_of (λ (n : ℕ). elem n (map channel_name (filtered active cs))) v) (flat_channels q) p
+        ap₂ (λ (cs : List Channel) (v : List ℕ). list_all (λ (n : ℕ). elem n (map channel_name (filter active cs))) v) (flat_channels q) p
         ∙ yes _ (all_picked named bs names h)
 
     pub kept_yes : first_no (layout_questions m) ≡ 0

@@ -8,7 +8,7 @@ use borrow.Author.Tests.{leb-true}
 use lib.Dec.{T, leb}
 use lib.Ieee.{binary64, fits}
 use lib.ListN.{length, set}
-use Rattle.lists.specs.Lists.{all_of}
+use Rattle.std.specs.List.{list_all}
 use Rattle.layout.specs.declared.Layout.{Layout}
 use Rattle.layout.specs.Steps.Accepted.{Accepted}
 use Rattle.layout.specs.Room.{Room, room_of, rows_in, anchors_in}
@@ -39,9 +39,9 @@ pub record Laid (q : Room) : Type 0 where
   pub sized : Sized layout
   pub none : first_no (layout_questions layout) ≡ 0
   pub yes : Accepted layout
-  pub zs : T (all_of (fits binary64) (map layer_z layout.layers))
-  pub ys : T (all_of (fits binary64) (map row_y layout.rows))
-  pub xs : T (all_of (fits binary64) (map anchor_x layout.anchors))
+  pub zs : T (list_all (fits binary64) (map layer_z layout.layers))
+  pub ys : T (list_all (fits binary64) (map row_y layout.rows))
+  pub xs : T (list_all (fits binary64) (map anchor_x layout.anchors))
   pub room : room_of layout ≡ q
 
 module _ {q : Room} (p : Laid q) (e : ℕ) where
@@ -100,7 +100,7 @@ module _ (l : Layout) (s : Sized l) (a : Accepted l) (bs : List Bool) (e : ℕ) 
       ∙ key_over q r (kept_within l s a bs) e
 
 -- ---- a layout whose arrays have all their places and whose coordinates are doubles; a state; an epoch
-module _ (l : Layout) (s : Sized l) (zs : T (all_of (fits binary64) (map layer_z l.layers))) (ys : T (all_of (fits binary64) (map row_y l.rows))) (xs : T (all_of (fits binary64) (map anchor_x l.anchors))) (t : RegionSemanticState) where
+module _ (l : Layout) (s : Sized l) (zs : T (list_all (fits binary64) (map layer_z l.layers))) (ys : T (list_all (fits binary64) (map row_y l.rows))) (xs : T (list_all (fits binary64) (map anchor_x l.anchors))) (t : RegionSemanticState) where
   module _ (none : first_no (layout_questions l) ≡ 0) where
     yes : Accepted l
     yes = accepted l s.channels s.layers s.rows s.anchors none

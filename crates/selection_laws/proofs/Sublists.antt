@@ -3,15 +3,16 @@ use mathlib.Core.Bool.{Bool, true, false}
 use mathlib.Core.List.{List, [], ◌∷◌}
 use lib.Dec.{T}
 use mir.Facts.{and_yes, yes_and}
-use Rattle.lists.specs.Lists.{all_of, chain, chain_from}
+use Rattle.lists.specs.Lists.{chain, chain_from}
+use Rattle.std.specs.List.{list_all}
 use Rattle.kept_anchors.specs.Steps.Kept.{picked}
 
 module _ {A : Type 0} (p : A → Bool) where
-  pub all_picked : (bs : List Bool) (xs : List A) → T (all_of p xs) → T (all_of p (picked bs xs))
+  pub all_picked : (bs : List Bool) (xs : List A) → T (list_all p xs) → T (list_all p (picked bs xs))
   all_picked [] xs h = tt
   all_picked (b ∷ bs) [] h = tt
-  all_picked (true ∷ bs) (x ∷ xs) h = let e = and_yes (p x) (all_of p xs) h in yes_and (p x) (all_of p (picked bs xs)) e.0 (all_picked bs xs e.1)
-  all_picked (false ∷ bs) (x ∷ xs) h = all_picked bs xs (and_yes (p x) (all_of p xs) h).1
+  all_picked (true ∷ bs) (x ∷ xs) h = let e = and_yes (p x) (list_all p xs) h in yes_and (p x) (list_all p (picked bs xs)) e.0 (all_picked bs xs e.1)
+  all_picked (false ∷ bs) (x ∷ xs) h = all_picked bs xs (and_yes (p x) (list_all p xs) h).1
 
 -- an ascending list stays so
 module _ {A : Type 0} (r : A → A → Bool) (trans : (x y z : A) → T (r x y) → T (r y z) → T (r x z)) where

@@ -9,12 +9,17 @@ use lib.Dec.{eqb}
 use lib.Ieee.{Float}
 use Rattle.layout.specs.declared.Layout.{Layout}
 use Rattle.layout.specs.Questions.{Question, first_no, or_else, layout_questions}
+use Rattle.std.specs.Prelude.{Result, Ok, Err}
+use Rattle.layout.specs.declared.refusal.Refusal.{Refusal}
+use Rattle.layout.specs.Refusals.{refusal_of, answer_by}
+use Rattle.layout.proofs.RefusalLaws.{ok_says, err_says}
 use Rattle.layout.specs.Room.{Room, active_in}
 use Rattle.layout.specs.Topology.{TopologyLayer}
 use Rattle.layout.proofs.Sizes.{Sized}
 use Rattle.layout.proofs.SoundRoom.{SoundRoom, sound_room}
 use Rattle.layout.proofs.QuestionLists.{first_or_lem, first_front, yes_first, layout_numbered, or_first}
-use Rattle.extent.specs.Extent.{extent_questions, mean_of, mean_radius}
+use Rattle.extent.specs.declared.Reading.{Reading}
+use Rattle.extent.specs.Extent.{extent_questions, reading_of, mean_of, mean_radius}
 use Rattle.extent.proofs.Readings.{extent_numbered}
 use Rattle.region.specs.declared.RegionSemanticState.{RegionSemanticState}
 use Rattle.region.specs.Zones.{question8, is_default}
@@ -27,12 +32,9 @@ use Rattle.keys.proofs.Asked.{asked_same}
 use Rattle.keys.proofs.RoomBack.{back_room}
 use Rattle.cache.specs.declared.Word.TheVariants.{Unused}
 use Rattle.selector.specs.Call.{Call, Found, Answer, Wanted, Typed, state_by, lent_room, answered, zone_questions, selected_of, answer_of}
-use Rattle.selector.specs.declared.Outcome.TheVariants.{Refused, Gains}
-use Rattle.selector.specs.declared.Plan.{Plan}
-use Rattle.selector.specs.declared.Plan.TheVariants as plan
 use Rattle.selector.specs.declared.Reply.{Reply}
 use Rattle.selector.specs.Steps.{plan_of, planned_key, wanted_in, later_answer, Leaves}
-use Rattle.selector.proofs.Planned.{plan_first, plan_no, wide, refused_tells, wide_tells}
+use Rattle.selector.proofs.Planned.{plan_first, plan_no, plan_is, wide}
 use Rattle.selector.proofs.Whole.{before, call_refused, call_later, later_back}
 
 module _ (c : Call) (t : Typed c) where
@@ -121,32 +123,41 @@ module _ (c : Call) (t : Typed c) where
           go false ys = refl
 
       -- and what is wanted of it is what the call wants
-      pub planned_answer : later_answer (wanted_in (planned_key packed c.extent c.flags) (mean_of c.extent) (mean_radius (mean_of c.extent)) c.centre c.points c.gains) f ≡ answer_of c f
+      pub planned_answer : later_answer (wanted_in (planned_key packed c.extent c.flags) (reading_of c.extent) c.centre c.points c.gains) f ≡ answer_of c f
       planned_answer =
           let a = asked in
           let of : Room → ℕ → Wanted = λ (r : Room) (n : ℕ). record { room = r; key = key; n = n; mean = mean_of c.extent; radius = mean_radius (mean_of c.extent); centre = c.centre; points = c.points; gains = c.gains } in
           let back = selected_room_back l sized t.zs t.ys t.xs state a.0 a.1 c.epoch in
-          ap (λ (k : List ℕ). later_answer (wanted_in k (mean_of c.extent) (mean_radius (mean_of c.extent)) c.centre c.points c.gains) f) planned_is
+          ap (λ (k : List ℕ). later_answer (wanted_in k (reading_of c.extent) c.centre c.points c.gains) f) planned_is
           ∙ ap (λ (w : Wanted). later_answer w f) (ap (λ (r : Room). of r (active_in r)) back ∙ ap (of (back_room room)) channels)
           ∙ later_back room (call_sound a.0 a.1) key (answered c) (mean_of c.extent) (mean_radius (mean_of c.extent)) c.centre c.points c.gains f
           ∙ sym (call_later c f z)
 
     -- ---- by the plan of the key that was packed
-    module _ (key : List ℕ) (k : key ≡ packed) (p : Plan) (pl : p ≡ plan_of key c.extent c.flags) where
-      told : p ≡ plan_of packed c.extent c.flags
-      told = pl ∙ ap (λ (x : List ℕ). plan_of x c.extent c.flags) k
+    module _ (key : List ℕ) (k : key ≡ packed) (p : Result Reading Refusal) (pl : p ≡ plan_of key c.extent c.flags) where
+      abbrev no : ℕ
+      no = plan_no packed c.extent c.flags
 
-      pub plan_refuses : (q : ℕ) (s : Reply) → p ≡ plan.Refused q → s ≡ record { outcome = Refused q; ring = f.ring } → Leaves (answer_of c f) s f.keys f.store c.gains
-      plan_refuses q s e r =
-          let w = refused_tells packed c.extent c.flags q (sym told ∙ e) in
-          let n : first_no (before c f) ≡ 0 → ⊥ = λ z. w.1 (plan_same ∙ z) in
-          let is : q ≡ first_no (before c f) = w.0 ∙ plan_same in
+      told : p ≡ answer_by no (reading_of c.extent)
+      told =
+          pl
+          ∙ ap (λ (x : List ℕ). plan_of x c.extent c.flags) k
+          ∙ plan_is packed c.extent c.flags
+
+      pub plan_refuses : (r : Refusal) (s : Reply) → p ≡ Err r → s ≡ record { outcome = Err r; ring = f.ring } → Leaves (answer_of c f) s f.keys f.store c.gains
+      plan_refuses r s e m =
+          let w = err_says no (reading_of c.extent) r (sym told ∙ e) in
+          let n : first_no (before c f) ≡ 0 → ⊥ = λ z. w.0 (plan_same ∙ z) in
+          let is : r ≡ refusal_of (first_no (before c f)) = w.1 ∙ ap refusal_of plan_same in
           subst (λ (a : Answer). Leaves a s f.keys f.store c.gains) (sym (call_refused c f n))
-          (r ∙ ap (λ (i : ℕ). record { outcome = Refused i; ring = f.ring }) is ∙ sym (ap (λ (b : Bool). record { outcome = cond b (Gains 0 Unused) (Refused (first_no (before c f))); ring = f.ring }) (ne_eqb _ 0 n)), (refl, (refl, refl)))
+          (m ∙ ap (λ (i : Refusal). record { outcome = Err i; ring = f.ring }) is ∙ sym (ap (λ (b : Bool). record { outcome = cond b (Ok (record { n = 0; word = Unused })) (Err (refusal_of (first_no (before c f)))); ring = f.ring }) (ne_eqb _ 0 n)), (refl, (refl, refl)))
 
-      module _ (mean : ℕ) (radius : Float) (e : p ≡ plan.Wide mean radius) (key' : List ℕ) (k' : key' ≡ planned_key key c.extent c.flags) where
+      module _ (reading : Reading) (e : p ≡ Ok reading) (key' : List ℕ) (k' : key' ≡ planned_key key c.extent c.flags) where
+        says : (no ≡ 0) × (reading ≡ reading_of c.extent)
+        says = ok_says no (reading_of c.extent) reading (sym told ∙ e)
+
         none : first_no (before c f) ≡ 0
-        none = sym plan_same ∙ (wide_tells packed c.extent c.flags mean radius (sym told ∙ e)).0
+        none = sym plan_same ∙ says.0
 
         left : key' ≡ planned_key packed c.extent c.flags
         left = k' ∙ ap (λ (x : List ℕ). planned_key x c.extent c.flags) k
@@ -154,11 +165,9 @@ module _ (c : Call) (t : Typed c) where
         pub plan_yes : first_no (layout_questions (layout_in key')) ≡ 0
         plan_yes = ap (λ (x : List ℕ). first_no (layout_questions (layout_in x))) left ∙ planned_yes none
 
-        pub plan_serves : (s : Reply) (keys' : List ℕ) (store' gains' : List Float) → Leaves (later_answer (wanted_in key' mean radius c.centre c.points c.gains) f) s keys' store' gains' → Leaves (answer_of c f) s keys' store' gains'
+        pub plan_serves : (s : Reply) (keys' : List ℕ) (store' gains' : List Float) → Leaves (later_answer (wanted_in key' reading c.centre c.points c.gains) f) s keys' store' gains' → Leaves (answer_of c f) s keys' store' gains'
         plan_serves s keys' store' gains' h =
-            let w = wide_tells packed c.extent c.flags mean radius (sym told ∙ e) in
-            let same : later_answer (wanted_in key' mean radius c.centre c.points c.gains) f ≡ answer_of c f =
-            ap (λ (x : List ℕ). later_answer (wanted_in x mean radius c.centre c.points c.gains) f) left
-            ∙ ap₂ (λ (m : ℕ) (r : Float). later_answer (wanted_in (planned_key packed c.extent c.flags) m r c.centre c.points c.gains) f) w.1 w.2
+            let same : later_answer (wanted_in key' reading c.centre c.points c.gains) f ≡ answer_of c f =
+            ap₂ (λ (x : List ℕ) (r : Reading). later_answer (wanted_in x r c.centre c.points c.gains) f) left says.1
             ∙ planned_answer none in
             subst (λ (a : Answer). Leaves a s keys' store' gains') same h

@@ -20,8 +20,7 @@ use Rattle.layout.specs.declared.Centre.{Centre}
 use Rattle.gains.specs.Gains.{projected}
 use Rattle.keys.proofs.Back.{back}
 use Rattle.keys.proofs.RoomBack.{back_room}
-use Rattle.cache.specs.declared.Slot.{Slot}
-use Rattle.cache.specs.declared.Slot.TheVariants.{At, Missing}
+use Rattle.std.specs.Prelude.{Option, Some, None}
 use Rattle.cache.specs.declared.Word.TheVariants.{Unused, Kept, Built}
 use Rattle.cache.specs.Questions.{lent_questions, state_questions}
 use Rattle.cache.specs.Places.{with_key, slot_of, new_place, ring_after}
@@ -98,9 +97,9 @@ module _ (r : Room) (sound : SoundRoom r) (key : List ℕ) (n mean : ℕ) (radiu
   accepted_back : (word : _) (p : ℕ) → accepted_with word (of (back_room r)) f p ≡ accepted_with word (of r) f p
   accepted_back word p = ap (λ (g : List Float). record { refusal = 0; n = n; word = word; gains = g; found = f }) (gains_back f.store p)
 
-  keyed_back : (s : Slot) → keyed_by (of (back_room r)) f s ≡ keyed_by (of r) f s
-  keyed_back (At p) = accepted_back Kept p
-  keyed_back Missing = built_back
+  keyed_back : (s : Option ℕ) → keyed_by (of (back_room r)) f s ≡ keyed_by (of r) f s
+  keyed_back (Some p) = accepted_back Kept p
+  keyed_back None = built_back
 
   served_back : served (of (back_room r)) f ≡ served (of r) f
   unfolding served

@@ -1,18 +1,17 @@
 -- The call for gains: what it brings, finds and leaves (document 01, 'What a call takes and answers' and 'The selector'). Definitions only.
-use Rattle.std.specs.Prelude.{ℕ, ◌≡◌, Bool, cond, List, [], ◌∷◌, ◌++◌, map, T, eqb, ltb, Float, length, replicate}
+use Rattle.std.specs.Prelude.{ℕ, ◌≡◌, Bool, cond, List, [], ◌∷◌, ◌++◌, map, T, eqb, ltb, Float, length, replicate, Option, Some, None, Result, Ok, Err}
 use Rattle.std.specs.Float.{binary64}
 use Rattle.std.specs.Float.Ieee.{fits}
-use Rattle.lists.specs.Lists.{all_of}
+use Rattle.std.specs.List.{list_all}
 use Rattle.layout.specs.declared.Layout.{Layout}
 use Rattle.layout.specs.Topology.{layer_z, row_y, anchor_x}
 use Rattle.layout.specs.Questions.{Question, first_no, layout_questions}
+use Rattle.layout.specs.declared.refusal.Refusal.{Refusal}
+use Rattle.layout.specs.Refusals.{answer_by}
 use Rattle.layout.specs.Room.{Room, room_of, active_in}
 use Rattle.extent.specs.declared.Extent.{Extent}
 use Rattle.extent.specs.Extent.{extent_questions, mean_of, mean_radius}
 use Rattle.region.specs.declared.RegionSemanticState.{RegionSemanticState}
-use Rattle.region.specs.declared.Zones.{Zones}
-use Rattle.region.specs.declared.Zones.TheVariants.{State}
-use Rattle.region.specs.declared.Zones.TheVariants as zones
 use Rattle.region.specs.Zones.{zones_of, question8, default_state}
 use Rattle.selection.specs.Selection.{question9, question10, selected_room}
 use Rattle.keys.specs.Keys.{key_numbers}
@@ -20,14 +19,11 @@ use Rattle.field.specs.Place.{filled}
 use Rattle.layout.specs.declared.Centre.{Centre}
 use Rattle.gains.specs.Gains.{projected}
 use Rattle.cache.specs.declared.Ring.{Ring}
-use Rattle.cache.specs.declared.Slot.{Slot}
-use Rattle.cache.specs.declared.Slot.TheVariants.{At, Missing}
 use Rattle.cache.specs.declared.Word.{Word}
 use Rattle.cache.specs.declared.Word.TheVariants.{Unused, Kept, Built}
 use Rattle.cache.specs.Questions.{lent_questions, state_questions}
 use Rattle.cache.specs.Places.{slot_of, new_place, ring_after, with_key}
-use Rattle.selector.specs.declared.Outcome.{Outcome}
-use Rattle.selector.specs.declared.Outcome.TheVariants.{Refused, Gains}
+use Rattle.selector.specs.declared.Gains.{Gains}
 use Rattle.selector.specs.declared.Selector.{Selector}
 
 -- what a call brings, all but selector and store
@@ -60,16 +56,16 @@ pub record Typed (c : Call) : Type 0 where
   pub layers : length c.layout.layers ≡ 4
   pub rows : length c.layout.rows ≡ 24
   pub anchors : length c.layout.anchors ≡ 24
-  pub zs : T (all_of (fits binary64) (map layer_z c.layout.layers))
-  pub ys : T (all_of (fits binary64) (map row_y c.layout.rows))
-  pub xs : T (all_of (fits binary64) (map anchor_x c.layout.anchors))
+  pub zs : T (list_all (fits binary64) (map layer_z c.layout.layers))
+  pub ys : T (list_all (fits binary64) (map row_y c.layout.rows))
+  pub xs : T (list_all (fits binary64) (map anchor_x c.layout.anchors))
   pub centre : T (fits binary64 c.centre.x) × T (fits binary64 c.centre.y) × T (fits binary64 c.centre.z)
 
 -- ---- questions
 
-abbrev pub state_in : Zones → RegionSemanticState
-state_in (State s) = s
-state_in (zones.Refused n) = default_state
+abbrev pub state_in : Result RegionSemanticState Refusal → RegionSemanticState
+state_in (Ok s) = s
+state_in (Err r) = default_state
 
 -- the state that the flags say
 abbrev pub state_by : List Bool → RegionSemanticState
@@ -159,9 +155,9 @@ accepted_with word w f p = record { refusal = 0; n = w.n; word = word; gains = g
 abbrev pub newly_built : Wanted → Found → Answer
 newly_built w f = accepted_with Built w (built w f) (new_place f.ring)
 
-abbrev pub keyed_by : Wanted → Found → Slot → Answer
-keyed_by w f (At p) = accepted_with Kept w f p
-keyed_by w f Missing = newly_built w f
+abbrev pub keyed_by : Wanted → Found → Option ℕ → Answer
+keyed_by w f (Some p) = accepted_with Kept w f p
+keyed_by w f None = newly_built w f
 
 abbrev pub keyed_of : Wanted → Found → Answer
 keyed_of w f = keyed_by w f (slot_of f.keys f.ring w.key)
@@ -178,6 +174,6 @@ unfoldable pub answer_of : Call → Found → Answer
 unfolding call_questions served
 answer_of c f = let q = first_no (call_questions c f) in cond (eqb q 0) (served (wanted c) f) (refused_by q c.gains f)
 
--- an answer as the enum: the number of the refusal, or n and the word
-abbrev pub outcome_of : Answer → Outcome
-outcome_of a = cond (eqb a.refusal 0) (Gains a.n a.word) (Refused a.refusal)
+-- an answer in Rust's form: n and the word, or the refusal
+abbrev pub outcome_of : Answer → Result Gains Refusal
+outcome_of a = answer_by a.refusal (record { n = a.n; word = a.word })

@@ -1,17 +1,19 @@
 -- What the parts of the call work with: a key, and the arguments as they are lent. Definitions only.
-use Rattle.std.specs.Prelude.{ℕ, ◌≡◌, Bool, cond, List, ◌++◌, eqb, Float, length}
+use Rattle.std.specs.Prelude.{ℕ, ◌≡◌, Bool, cond, List, ◌++◌, eqb, Float, length, Result}
 use Rattle.layout.specs.declared.Layout.{Layout}
-use Rattle.layout.specs.Questions.{Question, first_no, layout_questions}
+use Rattle.layout.specs.Questions.{Question, first_no, or_else, layout_questions}
+use Rattle.layout.specs.declared.refusal.Refusal.{Refusal}
+use Rattle.layout.specs.Refusals.{answer_by}
 use Rattle.layout.specs.Room.{active_in}
 use Rattle.extent.specs.declared.Extent.{Extent}
-use Rattle.extent.specs.Extent.{extent_questions, mean_of, mean_radius}
+use Rattle.extent.specs.declared.Reading.{Reading}
+use Rattle.extent.specs.Extent.{extent_questions, reading_of}
+use Rattle.region.specs.Zones.{question8}
 use Rattle.layout.specs.declared.Centre.{Centre}
 use Rattle.keys.specs.InKey.{layout_in, room_in}
 use Rattle.selection.specs.Steps.{selected_key}
 use Rattle.cache.specs.declared.Ring.{Ring}
 use Rattle.cache.specs.Questions.{lent_questions, state_questions}
-use Rattle.selector.specs.declared.Plan.{Plan}
-use Rattle.selector.specs.declared.Plan.TheVariants as plan
 use Rattle.selector.specs.declared.Reply.{Reply}
 use Rattle.selector.specs.declared.Selector.{Selector}
 use Rattle.selector.specs.Call.{Call, Found, Wanted, Answer, state_by, zone_questions, served, refused_by, answer_of, outcome_of}
@@ -23,12 +25,14 @@ unfoldable pub plan_questions : List ℕ → Extent → List Bool → List Quest
 unfolding zone_questions
 plan_questions key e flags = layout_questions (layout_in key) ++ (extent_questions e ++ zone_questions flags (room_in key))
 
--- their first no, or mean and radius
-unfoldable pub plan_of : List ℕ → Extent → List Bool → Plan
+-- the first no of 7, 18, 19 and 8
+abbrev pub asked_no : Extent → List Bool → ℕ
+asked_no e flags = or_else (first_no (extent_questions e)) (cond (question8 flags) 0 8)
+
+-- the first no of them all, or what the extent is read as
+unfoldable pub plan_of : List ℕ → Extent → List Bool → Result Reading Refusal
 unfolding plan_questions
-plan_of key e flags =
-    let q = first_no (plan_questions key e flags) in
-    cond (eqb q 0) (plan.Wide (mean_of e) (mean_radius (mean_of e))) (plan.Refused q)
+plan_of key e flags = answer_by (first_no (plan_questions key e flags)) (reading_of e)
 
 -- where there is none, the key becomes that of the selected room
 unfoldable pub planned_key : List ℕ → Extent → List Bool → List ℕ
@@ -36,9 +40,9 @@ unfolding plan_questions selected_key
 planned_key key e flags = cond (eqb (first_no (plan_questions key e flags)) 0) (selected_key (state_by flags) key) key
 
 -- what is wanted of the room in a key
-abbrev pub wanted_in : List ℕ → ℕ → Float → Centre → List Float → List Float → Wanted
-wanted_in key mean radius c points gains =
-    record { room = room_in key; key = key; n = active_in (room_in key); mean = mean; radius = radius; centre = c; points = points; gains = gains }
+abbrev pub wanted_in : List ℕ → Reading → Centre → List Float → List Float → Wanted
+wanted_in key reading c points gains =
+    record { room = room_in key; key = key; n = active_in (room_in key); mean = reading.mean; radius = reading.radius; centre = c; points = points; gains = gains }
 
 -- 11 to 14
 abbrev pub later_questions : Wanted → Found → List Question

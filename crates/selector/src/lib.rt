@@ -11,14 +11,17 @@ mod planning;
 pub use cache::{Ring, Word};
 pub use call::project_outcome_with_epoch;
 use extent::Extent;
-use layout::{Centre, Layout};
+use layout::{Centre, Layout, Refusal};
 
-// The answer of a call: the number of the refusal, or how many gains and a word.
-#[derive(Clone, Copy)]
-pub enum Outcome {
-    Refused(u64),
-    Gains(usize, Word),
+// What an accepted call answers: how many gains, and a word on its field.
+#[derive(Clone, Copy, Debug, PartialEq, Eq)]
+pub struct Gains {
+    pub n: usize,
+    pub word: Word,
 }
+
+// The answer of a call, or the first question that refuses it.
+pub type Outcome = Result<Gains, Refusal>;
 
 // What a call answers, with the ring that it leaves.
 #[derive(Clone, Copy)]
@@ -27,7 +30,8 @@ pub struct Reply {
     pub ring: Ring,
 }
 
-// A selector: the numbers of eight keys, 156 to a key, how many are held, and the oldest place.
+// A selector: the numbers of eight keys, 156 to a key, how many are held, and the oldest place. Its fields
+// are document 01's state, plain values that anything may stand in; a `Ring` goes beside lent keys.
 #[derive(Clone, Copy)]
 pub struct Selector {
     pub keys: [u64; 1248],
@@ -80,26 +84,16 @@ impl Selector {
             count: self.count,
             oldest: self.oldest,
         };
-        let reply = project_outcome_with_epoch(
+        let Reply { outcome, ring } = project_outcome_with_epoch(
             &mut keys, r, store, l, epoch, e, flags, c, points, gains,
         );
-        let outcome = reply.outcome;
-        let ring = reply.ring;
         SelectorReply {
-            outcome: outcome,
+            outcome,
             selector: Selector {
-                keys: keys,
+                keys,
                 count: ring.count,
                 oldest: ring.oldest,
             },
         }
     }
-}
-
-// What the questions before question 11 leave of a call: the number of the first no, or the mean and
-// the radius.
-#[derive(Clone, Copy)]
-enum Plan {
-    Refused(u64),
-    Wide(u64, f64),
 }

@@ -9,7 +9,7 @@ use lib.Dec.{eqb, ltb}
 use lib.Ieee.{Float}
 use lib.Ieee.Fits.{and_l, and_r}
 use lib.ListN.{length, get_or, take, drop}
-use Rattle.lists.specs.Lists.{all_of, any_of}
+use Rattle.std.specs.List.{list_all, list_any}
 use Rattle.layout.specs.Room.{Room}
 use Rattle.layout.specs.Same.{same_room}
 use Rattle.layout.proofs.SoundRoom.{SoundRoom}
@@ -19,8 +19,7 @@ use Rattle.field_laws.proofs.SamePlaces.{same_filled}
 use Rattle.field.proofs.Patching.{patched_length}
 use Rattle.keys.specs.Keys.{key_numbers}
 use Rattle.keys.proofs.SameKeys.{key_same, same_key_lem}
-use Rattle.cache.specs.declared.Slot.{Slot}
-use Rattle.cache.specs.declared.Slot.TheVariants.{At, Missing}
+use Rattle.std.specs.Prelude.{Option, Some, None}
 use Rattle.cache.specs.declared.Word.{Word}
 use Rattle.cache.specs.declared.Word.TheVariants.{Unused, Kept, Built}
 use Rattle.cache.specs.Places.{key_at, with_key, slot_of}
@@ -33,20 +32,20 @@ use Rattle.selector_law.proofs.Held.{no_key, Holds, fresh_holds, asks_14, holds_
 use Rattle.selector_law.proofs.Serving.{yes, true_of, selected_sound, store_big, served_field, served_point, served_bounded, point_served_bounded}
 
 -- ---- a key among keys
-any_it : (p : Key → Bool) (ks : List Key) (i : ℕ) → i < length ks → p (get_or ks i no_key) ≡ true → any_of p ks ≡ true
+any_it : (p : Key → Bool) (ks : List Key) (i : ℕ) → i < length ks → p (get_or ks i no_key) ≡ true → list_any p ks ≡ true
 any_it p [] i h e = absurd (omega arith)
-any_it p (k ∷ ks) zero h e = ap (λ (b : Bool). b || any_of p ks) e
+any_it p (k ∷ ks) zero h e = ap (λ (b : Bool). b || list_any p ks) e
 any_it p (k ∷ ks) (suc i) h e = ap (λ (b : Bool). p k || b) (any_it p ks i (omega arith) e) ∙ either (p k)
   where
     either : (b : Bool) → (b || true) ≡ true
     either true = refl
     either false = refl
 
-any_not : (p : Key → Bool) (ks : List Key) → ((i : ℕ) → i < length ks → p (get_or ks i no_key) ≡ true → ⊥) → any_of p ks ≡ false
+any_not : (p : Key → Bool) (ks : List Key) → ((i : ℕ) → i < length ks → p (get_or ks i no_key) ≡ true → ⊥) → list_any p ks ≡ false
 any_not p [] h = refl
 any_not p (k ∷ ks) h = go (p k) refl (any_not p ks (λ i l. h (suc i) (omega arith)))
   where
-    go : (b : Bool) → p k ≡ b → any_of p ks ≡ false → (b || any_of p ks) ≡ false
+    go : (b : Bool) → p k ≡ b → list_any p ks ≡ false → (b || list_any p ks) ≡ false
     go true e r = absurd (h 0 (omega arith) e)
     go false e r = r
 
@@ -81,7 +80,7 @@ module _ (c : Call) (t : Typed c) where
     abbrev sel : Room
     sel = selected_of c
 
-    abbrev slot : Slot
+    abbrev slot : Option ℕ
     slot = slot_of w f.ring (wanted c).key
 
     abbrev at : ℕ
@@ -131,11 +130,11 @@ module _ (c : Call) (t : Typed c) where
     unfolding served
     ways P unused kept new = by_mean (eqb (mean_of c.extent) 0) refl
       where
-        by_slot : eqb (mean_of c.extent) 0 ≡ false → (t : Slot) → slot ≡ t → P (keyed_by (wanted c) f t)
-        by_slot m (At p) e =
+        by_slot : eqb (mean_of c.extent) 0 ≡ false → (t : Option ℕ) → slot ≡ t → P (keyed_by (wanted c) f t)
+        by_slot m (Some p) e =
             let r = find_place w (wanted c).key k.oldest (length k.keys) h.few p e in
             subst (λ (j : ℕ). P (accepted_with Kept (wanted c) f j)) (sym r.place) (kept r.index m (at_key r.index r.within (ap (key_at w) (sym r.place) ∙ r.same)))
-        by_slot m Missing e = new m (no_key_lem (find_none w (wanted c).key k.oldest (length k.keys) h.few e))
+        by_slot m None e = new m (no_key_lem (find_none w (wanted c).key k.oldest (length k.keys) h.few e))
 
         by_mean : (b : Bool) → eqb (mean_of c.extent) 0 ≡ b → P (cond b (accepted_with Unused (wanted c) f 0) (keyed_of (wanted c) f))
         by_mean true e = unused e
@@ -206,7 +205,7 @@ module _ (c : Call) (t : Typed c) where
     new_store = filled (selected_of c) ((k.oldest + length k.keys) % 8) s
 
     -- an answer from its parts
-    step_by : (word : Word) (g : Found) (r : ℕ) → word ≡ word_of k c → ((u : List Float) → length u ≡ length s → gains_by (wanted c) g.store r ≡ value_by k w s h asked u) → all_of is_gain (take (answered c) (gains_by (wanted c) g.store r)) ≡ true → Holds (after_call (length s) k c) g → g.keys ≡ keys_after (length s) k c w → g.store ≡ store_after (length s) k c s → Step k (found_of k w s) c (accepted_with word (wanted c) g r)
+    step_by : (word : Word) (g : Found) (r : ℕ) → word ≡ word_of k c → ((u : List Float) → length u ≡ length s → gains_by (wanted c) g.store r ≡ value_by k w s h asked u) → list_all is_gain (take (answered c) (gains_by (wanted c) g.store r)) ≡ true → Holds (after_call (length s) k c) g → g.keys ≡ keys_after (length s) k c w → g.store ≡ store_after (length s) k c s → Step k (found_of k w s) c (accepted_with word (wanted c) g r)
     step_by word g r e v b held ws ss =
         record {
           right = record {
@@ -266,7 +265,7 @@ module _ (c : Call) (t : Typed c) where
         let y : leaves (length s) k c ≡ true = rw (z, e, m.held) in
         let j = (k.oldest + i) % 8 in
         step_by Kept (found_of k w s) j (sym (ap₂ (λ (b d : Bool). cond b Unused (cond d Kept Built)) e m.held)) (by_kept k w s h asked i e m)
-        (subst (λ (u : List Float). all_of is_gain (take (answered c) (gains_by (wanted c) u j)) ≡ true) m.field (served_bounded c t (length s) asked j s (omega arith) (store_big c t (length s) asked)))
+        (subst (λ (u : List Float). list_all is_gain (take (answered c) (gains_by (wanted c) u j)) ≡ true) m.field (served_bounded c t (length s) asked j s (omega arith) (store_big c t (length s) asked)))
         (stays_holds y) (stays_keys y) (stays_store y))
         (λ e m.
         let y = new_leaves e m in

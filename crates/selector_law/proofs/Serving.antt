@@ -14,7 +14,7 @@ use lib.Seq.{get_or-take}
 use Rattle.doubles.specs.Arithmetic.{zero64, dec}
 use Rattle.doubles.specs.Norm.{five_quarters, Bounded}
 use Rattle.doubles.specs.Range.{is_between}
-use Rattle.lists.specs.Lists.{all_of}
+use Rattle.std.specs.List.{list_all}
 use Rattle.layout.specs.Topology.{TopologyLayer}
 use Rattle.layout.specs.Room.{active_in}
 use Rattle.layout.proofs.SoundRoom.{SoundRoom}
@@ -52,12 +52,12 @@ bounded_is g b =
     let u = true_of (le g (dec 125 2)) (subst (λ (q : Float). T (le g q)) (sym quarters) b.2) in
     rw (true_of (finite g) b.0, true_of (le zero64 g) b.1, u)
 
-all_at : (p : Float → Bool) (xs : List Float) (i : ℕ) → all_of p xs ≡ true → i < length xs → p (get_or xs i nan) ≡ true
+all_at : (p : Float → Bool) (xs : List Float) (i : ℕ) → list_all p xs ≡ true → i < length xs → p (get_or xs i nan) ≡ true
 all_at p [] i e h = absurd (omega arith)
-all_at p (x ∷ xs) zero e h = true_of (p x) (and_l (p x) (all_of p xs) (yes (p x && all_of p xs) e))
-all_at p (x ∷ xs) (suc i) e h = all_at p xs i (true_of (all_of p xs) (and_r (p x) (all_of p xs) (yes (p x && all_of p xs) e))) (omega arith)
+all_at p (x ∷ xs) zero e h = true_of (p x) (and_l (p x) (list_all p xs) (yes (p x && list_all p xs) e))
+all_at p (x ∷ xs) (suc i) e h = all_at p xs i (true_of (list_all p xs) (and_r (p x) (list_all p xs) (yes (p x && list_all p xs) e))) (omega arith)
 
-all_by : (p : Float → Bool) (xs : List Float) → ((i : ℕ) → i < length xs → p (get_or xs i nan) ≡ true) → all_of p xs ≡ true
+all_by : (p : Float → Bool) (xs : List Float) → ((i : ℕ) → i < length xs → p (get_or xs i nan) ≡ true) → list_all p xs ≡ true
 all_by p [] h = refl
 all_by p (x ∷ xs) h = rw (h 0 (omega arith), all_by p xs (λ i l. h (suc i) (omega arith)))
 
@@ -80,12 +80,12 @@ module _ (c : Call) (t : Typed c) (size : ℕ) (q : Said c size) where
   slots = leb-true (answered c) (length c.gains) (true_of (leb (answered c) (length c.gains)) (and_l (leb (answered c) (length c.gains)) (leb 285312 size) (yes (question13 (answered c) (length c.gains) size) q.yes13)))
 
   points_many : length c.points ≡ answered c
-  points_many = eqb-true (length c.points) (answered c) (true_of _ (and_l (eqb (length c.points) (answered c)) (all_of is_gain c.points) (yes (question12 (answered c) c.points) q.yes12)))
+  points_many = eqb-true (length c.points) (answered c) (true_of _ (and_l (eqb (length c.points) (answered c)) (list_all is_gain c.points) (yes (question12 (answered c) c.points) q.yes12)))
 
   points_bounded : (i : ℕ) → i < answered c → Bounded (get_or c.points i nan)
   points_bounded i h =
       is_bounded (get_or c.points i nan)
-      (all_at is_gain c.points i (true_of _ (and_r (eqb (length c.points) (answered c)) (all_of is_gain c.points) (yes (question12 (answered c) c.points) q.yes12))) (omega (arith, points_many)))
+      (all_at is_gain c.points i (true_of _ (and_r (eqb (length c.points) (answered c)) (list_all is_gain c.points) (yes (question12 (answered c) c.points) q.yes12))) (omega (arith, points_many)))
 
   few : answered c ≤ 24
   few = omega (arith, selected_count, selected_sound.few_active)
@@ -116,14 +116,14 @@ module _ (c : Call) (t : Typed c) (size : ℕ) (q : Said c size) where
       (point_projected p r (answered c) s u (ltb 1 (length (selected_of c).layers)) (mean_radius 0) c.centre c.points c.gains h k b d)
 
   -- ---- the bound
-  gains_all : (gs : List Float) → ((i : ℕ) → i < answered c → Bounded (get_or gs i nan)) → all_of is_gain (take (answered c) gs) ≡ true
+  gains_all : (gs : List Float) → ((i : ℕ) → i < answered c → Bounded (get_or gs i nan)) → list_all is_gain (take (answered c) gs) ≡ true
   gains_all gs h =
       all_by is_gain (take (answered c) gs)
       (λ i l.
       let j : i < answered c = omega (arith, simp length-take at l) in
       ap is_gain (get_or-take (answered c) gs i nan j) ∙ bounded_is (get_or gs i nan) (h i j))
 
-  pub served_bounded : (p : ℕ) (s : List Float) → p < 8 → 285312 ≤ length s → all_of is_gain (take (answered c) (gains_by (wanted c) (filled (selected_of c) p s) p)) ≡ true
+  pub served_bounded : (p : ℕ) (s : List Float) → p < 8 → 285312 ≤ length s → list_all is_gain (take (answered c) (gains_by (wanted c) (filled (selected_of c) p s) p)) ≡ true
   served_bounded p s h b =
       let z = selected_sound in
       let l = selected_of c in
@@ -135,7 +135,7 @@ module _ (c : Call) (t : Typed c) (size : ℕ) (q : Said c size) where
       (ap (λ (n : ℕ). projectable (length s) p n (length c.points) (length c.gains)) selected_count ∙ projects p s h b)
       (λ i l. points_bounded i (omega (arith, selected_count)))))
 
-  pub point_served_bounded : mean_of c.extent ≡ 0 → (p : ℕ) (s : List Float) → p < 8 → 285312 ≤ length s → all_of is_gain (take (answered c) (gains_by (wanted c) s p)) ≡ true
+  pub point_served_bounded : mean_of c.extent ≡ 0 → (p : ℕ) (s : List Float) → p < 8 → 285312 ≤ length s → list_all is_gain (take (answered c) (gains_by (wanted c) s p)) ≡ true
   point_served_bounded e p s h b =
       gains_all (gains_by (wanted c) s p)
       (subst

@@ -1,6 +1,6 @@
 -- The eight-place rule, fed the arguments alone, and what is claimed of every list of calls. Definitions only.
 use Rattle.std.specs.Prelude.{ℕ, ◌+◌, ◌%◌, ◌≡◌, Bool, true, ◌&&◌, ◌||◌, not, cond, List, [], ◌∷◌, ◌++◌, map, eqb, Float, length, take, drop}
-use Rattle.lists.specs.Lists.{all_of, any_of}
+use Rattle.std.specs.List.{list_all, list_any}
 use Rattle.layout.specs.Room.{Room}
 use Rattle.layout.specs.Same.{same_room}
 use Rattle.layout.specs.Questions.{first_no}
@@ -45,7 +45,7 @@ abbrev pub refusal_by : ℕ → Call → ℕ
 refusal_by size c = first_no (argument_questions c size)
 
 abbrev pub is_held : KeptList → Call → Bool
-is_held k c = any_of (same_key (call_key c)) k.keys
+is_held k c = list_any (same_key (call_key c)) k.keys
 
 abbrev pub leaves : ℕ → KeptList → Call → Bool
 leaves size k c = not (eqb (refusal_by size c) 0) || eqb (mean_of c.extent) 0 || is_held k c
@@ -93,7 +93,7 @@ pub record Right (k : KeptList) (f : Found) (c : Call) (a : Answer) : Type 0 whe
   -- accepted, it answers n and the rule's word, and each gain is finite and from 0 to 5/4
   pub number : refusal_by (length f.store) c ≡ 0 → a.n ≡ answered c
   pub word : refusal_by (length f.store) c ≡ 0 → a.word ≡ word_of k c
-  pub bounded : refusal_by (length f.store) c ≡ 0 → all_of is_gain (take (answered c) a.gains) ≡ true
+  pub bounded : refusal_by (length f.store) c ≡ 0 → list_all is_gain (take (answered c) a.gains) ≡ true
   -- state and store are as the rule leaves them, and the store keeps its length
   pub count : a.found.ring.count ≡ length (after_call (length f.store) k c).keys
   pub oldest : a.found.ring.oldest ≡ (after_call (length f.store) k c).oldest

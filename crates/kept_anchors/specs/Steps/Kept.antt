@@ -1,8 +1,9 @@
 -- A key with just the anchors whose flags are set: an equation for any 156 numbers. Definitions only.
 -- `kept_key` is the interface; what stands before it are its parts.
-use Rattle.std.specs.Prelude.{ℕ, ◌+◌, min, ◌≡◌, Bool, not, cond, List, [], ◌∷◌, map, eqb, length, take, set, get_or}
+use Rattle.std.specs.Prelude.{ℕ, ◌+◌, min, Bool, not, cond, List, [], ◌∷◌, map, eqb, length, take, set, get_or}
 use Rattle.std.proofs.Math.Seq.{slice}
-use Rattle.lists.specs.Lists.{bit, chunks, filtered, total}
+use Rattle.lists.specs.Lists.{bit, chunks, total}
+use Rattle.std.specs.List.{filter}
 use Rattle.keys.specs.Keys.{filled_to}
 use Rattle.keys.specs.Steps.{two_parts}
 
@@ -72,10 +73,4 @@ unfoldable pub kept_key : List Bool → List ℕ → List ℕ
 kept_key kept key =
     let layers = layers_picked (layers_of_key key) (rows_left kept key) key in
     let rows = rows_picked (rows_of_key key) (anchors_left kept key) layers in
-    set (anchors_picked (anchors_of_key key) kept rows) 153 (length (filtered is_positive (rows_left kept key)))
-
--- ---- what clears a part: where the first `from` numbers from a and from b on were xs and ys, those behind them up to `to` are zeros now
-abbrev pub Cleared : ℕ → ℕ → ℕ → ℕ → List ℕ → List ℕ → Type 0
-Cleared a b from to was now =
-    (old xs ys : List ℕ) → length old ≡ 156 → length xs ≡ from → length ys ≡ from →
-    was ≡ two_parts a xs b ys from old → now ≡ parts_over a b to xs ys old
+    set (anchors_picked (anchors_of_key key) kept rows) 153 (length (filter is_positive (rows_left kept key)))

@@ -1,18 +1,19 @@
--- By whether more than eight are said to be held.
-use Prim.Native.Nat.{◌≤◌}
-use mathlib.Core.Path.{sym, ap, ◌∙◌}
+-- What is found in the places that are left is what is found in all.
+use mathlib.Core.Path.{refl, sym, ◌∙◌}
 use native.Mathlib.Omega.{arith}
-use Rattle.cache.specs.Places.{find_from, first_places}
-use Rattle.cache.proofs.KeyCompare.{from_remainder, all_places}
+use Rattle.cache.proofs.KeyCompare.{finding_here, finding_next, finding_done, every_place}
 use Rattle.cache.proofs.places.find.Goals as goal
 
-pub returns-then-r-gt8 : goal.returns-then-r-gt8
-returns-then-r-gt8 c =
-    let a = c.args in
-    let h : 8 ≤ a.r.count = omega arith in
-    c.find_from.ensures ∙ from_remainder a.keys.now a.key.now a.r.oldest (first_places 8) ∙ sym (ap (find_from a.keys.now a.key.now a.r.oldest) (all_places a.r.count h))
+pub loop-i-init : goal.loop-i-init
+loop-i-init c = record { reached = omega arith; few = omega (arith, c.min-count.ensures); same = refl }
 
-pub returns-else-r-gt8 : goal.returns-else-r-gt8
-returns-else-r-gt8 c =
-    let a = c.args in
-    c.find_from-else-r-gt8.ensures ∙ from_remainder a.keys.now a.key.now a.r.oldest (first_places a.r.count)
+pub returns-then-has_key : goal.returns-then-has_key
+returns-then-has_key c =
+    finding_here _ _ _ _ _ c.loop-i.invariant (omega arith) (sym c.has_key.ensures ∙ c.if-has_key.true) ∙ every_place _ _ _ _ _ c.min-count.ensures
+
+pub loop-i-preserved : goal.loop-i-preserved
+loop-i-preserved c =
+    finding_next _ _ _ _ _ c.loop-i.invariant (omega arith) (sym c.has_key.ensures ∙ c.if-has_key.false)
+
+pub returns : goal.returns
+returns c = finding_done _ _ _ _ _ c.loop-i.invariant (omega arith) ∙ every_place _ _ _ _ _ c.min-count.ensures

@@ -1,10 +1,15 @@
 -- No bit differs so far, and the rests are equal, exactly where the whole is.
+use mathlib.Core.Path.{◌≡◌}
 use native.Mathlib.Omega.{arith}
+use borrow.Author.Rules.{rules}
+use lib.ListN.{length}
 use Rattle.cache.proofs.KeyCompare.{compared_none, compared_more, compared_done}
 use Rattle.cache.proofs.places.is_key.Goals as goal
 
 pub loop-i-init : goal.loop-i-init
-loop-i-init c = compared_none _ _ _ c.requires.from_in_bounds c.requires.key_len
+loop-i-init c =
+    let k : length c.args.keys.now ≡ 1248 = search rules in
+    compared_none _ _ _ (omega arith) (search rules)
 
 pub loop-i-preserved : goal.loop-i-preserved
 loop-i-preserved c =

@@ -1,17 +1,20 @@
--- By what the counts say.
-use mathlib.Core.Path.{ap, ◌∙◌}
-use Prim.Native.Nat.{ℕ, ◌+◌, min}
+-- Part by part.
+use mathlib.Core.Path.{◌∙◌}
+use native.Mathlib.Nat.{zero-add}
 use borrow.Author.Rules.{rules}
-use lib.Seq.{slice}
-use Rattle.lists.specs.Lists.{total}
+use Rattle.lists.proofs.FromFn.{from_fn_map}
+use Rattle.kept_anchors.specs.Steps.Kept.{is_positive}
+use Rattle.kept_anchors.proofs.KeptKey.{packed}
 use Rattle.kept_anchors.proofs.kept.pack_kept.Goals as goal
 
-pub pack_topology-d-requires : goal.pack_topology-d-requires
-pack_topology-d-requires c =
+pub returns : goal.returns
+returns c =
     let t = c.args in
-    record {
-      key_len = search rules;
-      kept_len = search rules;
-      depth_value = c.covered_layers-depth.ensures;
-      rows_value = c.rows_in-rows.ensures ∙ ap (λ (n : ℕ). min (total (slice 48 (48 + n) t.key.now)) 24) c.covered_layers-depth.ensures;
-    }
+    packed t.key.now (search rules) t.kept.now (search rules) _ _ _ _ _ _ _ _ _ _ _ _ _
+    c.covered_layers-depth.ensures (c.reach-rows.ensures ∙ rw zero-add) (c.reach-anchors.ensures ∙ rw zero-add)
+    c.counts_by.ensures
+    (from_fn_map _ _ is_positive _ 0 (λ i y q r. search rules) _ _ c.from_fn-rows_kept.ensures.items (search rules))
+    c.counts_by-2.ensures
+    (from_fn_map _ _ is_positive _ 0 (λ i y q r. search rules) _ _ c.from_fn-layers_kept.ensures.items (search rules))
+    c.copy_from_slice.ensures.after c.sift-left.ensures.key_after c.sift-left.ensures.number
+    c.copy_from_slice-2.ensures.after (search rules) c.sift.ensures.key_after c.sift-2.ensures.key_after

@@ -1,60 +1,38 @@
--- Whether the layers that are left have classes is whether all have, and row and at are where the next layer begins.
-use mathlib.Core.Path.{◌≡◌, sym, ap, ◌∙◌}
-use mathlib.Core.Bool.{Bool, not, ◌||◌}
-use lib.Ieee.{Float, eq}
-use Rattle.doubles.specs.Arithmetic.{zero64}
+-- Whether the layers that are left have classes is whether all have.
+use mathlib.Core.Path.{ap}
+use mathlib.Core.Bool.{not}
 use native.Mathlib.Omega.{arith}
-use Rattle.selection.proofs.KeyLayers.{classed_none, classed_step, classed_not, classed_done, classed_answer}
+use borrow.Author.Rules.{rules}
+use Rattle.selection.proofs.KeyLayers.{depth_few, used_few, classed_none, classed_step, classed_not, classed_done, classed_answer}
 use Rattle.selection.proofs.flags.bed_classed.Invariants.{by}
 use Rattle.selection.proofs.flags.bed_classed.Goals as goal
 
-pub returns-then-is_no_constraints : goal.returns-then-is_no_constraints
-returns-then-is_no_constraints c = rw (sym c.is_no_constraints.ensures ∙ c.if-is_no_constraints.true)
+pub shared_ref_as_front-any_outside_five : goal.shared_ref_as_front-any_outside_five
+shared_ref_as_front-any_outside_five c = omega (arith, used_few c.args.key.now (search rules) c.requires)
 
 pub loop-i-init : goal.loop-i-init
 loop-i-init c =
-    let p = c.requires in
     let a = c.args in
-    (p.key_len, omega (arith, p.accepted.few_layers, p.depth_value), omega arith, omega arith, classed_none a.key.now a.used a.depth (by a.state.horizontal) c.five_x-five.result)
-
-read : (z x : Float) (r rest : Bool) → z ≡ x → r ≡ (not (eq z zero64) || rest) → r ≡ (not (eq x zero64) || rest)
-read z x r rest e f = f ∙ ap (λ (y : Float). not (eq y zero64) || rest) e
+    (depth_few a.key.now (search rules) c.requires, classed_none a.key.now (by a.state.horizontal) (not c.any_outside_five-five.result))
 
 pub returns-then-not-layer_classed : goal.returns-then-not-layer_classed
 returns-then-not-layer_classed c =
     let a = c.args in
     let v = c.loop-i in
     let s = by a.state.horizontal in
-    let p = c.requires in
-    classed_answer a.key.now a.used a.depth s _ c.five_x-five.result _ v.row v.at v.i v.invariant.4 c.is_no_constraints.ensures c.if-is_no_constraints.false c.five_x-five.ensures
-    (classed_not a.key.now a.used a.depth s v.row v.at v.i _ _ c.loop-i-test.true c.next_start-rows.ensures c.anchors_end-end.ensures c.five_x-five.result _ v.invariant.4 (read _ _ _ _ c.of_bits-z.ensures c.layer_classed.ensures) c.if-not-layer_classed.true) p.key_len p.accepted p.used_value p.depth_value
+    let n = classed_not a.key.now s c.layer_starts-starts.result c.layer_starts-starts.ensures.value (not c.any_outside_five-five.result) _ v.i _ c.loop-i-test.true c.of_bits.ensures c.layer_classed.ensures (search rules) c.requires c.if-not-layer_classed.true in
+    classed_answer a.key.now s (search rules) c.requires _ _ _ v.i v.invariant.1 c.is_no_constraints.ensures c.if-is_no_constraints.false (ap not c.any_outside_five-five.ensures) n
 
 pub loop-i-preserved : goal.loop-i-preserved
 loop-i-preserved c =
     let a = c.args in
     let v = c.loop-i in
-    let w = v.invariant in (
-      w.0,
-      w.1,
-      omega (arith, c.next_start-rows.ensures),
-      omega (arith, c.anchors_end-end.ensures),
-      classed_step a.key.now a.used a.depth (by a.state.horizontal) v.row v.at v.i _ _ c.loop-i-test.true c.next_start-rows.ensures c.anchors_end-end.ensures c.five_x-five.result _ w.4 (read _ _ _ _ c.of_bits-z.ensures c.layer_classed.ensures) c.if-not-layer_classed.false,
-    )
+    (v.invariant.0, classed_step a.key.now (by a.state.horizontal) c.layer_starts-starts.result c.layer_starts-starts.ensures.value (not c.any_outside_five-five.result) _ v.i _ c.loop-i-test.true c.of_bits.ensures c.layer_classed.ensures v.invariant.1 c.if-not-layer_classed.false)
 
 pub returns : goal.returns
 returns c =
     let a = c.args in
     let v = c.loop-i in
     let s = by a.state.horizontal in
-    let p = c.requires in
-    classed_answer a.key.now a.used a.depth s _ c.five_x-five.result _ v.row v.at v.i v.invariant.4 c.is_no_constraints.ensures c.if-is_no_constraints.false c.five_x-five.ensures
-    (classed_done a.key.now a.used a.depth s c.five_x-five.result v.i c.loop-i-test.false) p.key_len p.accepted p.used_value p.depth_value
-
-pub five_x-five-requires : goal.five_x-five-requires
-five_x-five-requires c = let p = c.requires in omega (arith, p.key_len, p.accepted.few_channels, p.used_value)
-
-pub anchors_end-end-requires : goal.anchors_end-end-requires
-anchors_end-end-requires c = let w = c.loop-i.invariant in record { key_len = w.0; end_bound = omega (arith, c.next_start-rows.ensures); at_bound = w.3 }
-
-pub layer_classed-requires : goal.layer_classed-requires
-layer_classed-requires c = record { key_len = c.loop-i.invariant.0; end_bound = omega (arith, c.anchors_end-end.ensures) }
+    let n = classed_done a.key.now s (search rules) c.requires (not c.any_outside_five-five.result) v.i c.loop-i-test.false in
+    classed_answer a.key.now s (search rules) c.requires _ _ _ v.i v.invariant.1 c.is_no_constraints.ensures c.if-is_no_constraints.false (ap not c.any_outside_five-five.ensures) n

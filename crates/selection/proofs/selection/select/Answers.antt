@@ -7,12 +7,12 @@ use mathlib.Core.List.{List}
 use native.Mathlib.Omega.{arith}
 use borrow.Author.Rules.{rules}
 use lib.ListN.{length}
-use Rattle.lists.specs.Lists.{any_of}
+use Rattle.std.specs.List.{list_any}
 use Rattle.layout.specs.Steps.Accepted.{Accepted}
 use Rattle.layout.proofs.QuestionsAccepted.{accepted}
 use Rattle.region.specs.Zones.{is_default}
 use Rattle.keys.specs.InKey.{layout_in, room_in}
-use Rattle.keys.proofs.InKey.{sized, used_is, depth_is as depth-at}
+use Rattle.keys.proofs.InKey.{sized}
 use Rattle.layout.proofs.RoomLists.{depth_is}
 use Rattle.kept_anchors.specs.Steps.Kept.{kept_key}
 use Rattle.selection.specs.Selection.{question9}
@@ -33,8 +33,8 @@ module _ (key : List ℕ) (long : length key ≡ 156) (none : first_no (layout_q
   some_layer = omega (arith, depth_is (layout_in key) (sized key long) room_accepted, room_accepted.some_layers)
 
 -- question 9 in another state, as one flag or none is set
-nine : (s : RegionSemanticState) (key : List ℕ) (flags : List Bool) (any b : Bool) → is_default s ≡ false → flags ≡ kept_flags s (room_in key) → any ≡ any_of is_set flags → any ≡ b → question9 s (room_in key) ≡ b
-nine s key flags any b other f a e = sym (nine_by_flags s (room_in key) other) ∙ ap (any_of is_set) (sym f) ∙ sym a ∙ e
+nine : (s : RegionSemanticState) (key : List ℕ) (flags : List Bool) (any b : Bool) → is_default s ≡ false → flags ≡ kept_flags s (room_in key) → any ≡ list_any is_set flags → any ≡ b → question9 s (room_in key) ≡ b
+nine s key flags any b other f a e = sym (nine_by_flags s (room_in key) other) ∙ ap (list_any is_set) (sym f) ∙ sym a ∙ e
 
 -- ---- the default state
 pub returns-then-is_default : goal.returns-then-is_default
@@ -51,46 +51,29 @@ returns-then-is_default c =
     }
 
 -- ---- another state
-pub kept_flags-requires : goal.kept_flags-requires
-kept_flags-requires c =
-    let key = c.args.key.now in
-    let long : length key ≡ 156 = search rules in
-    record {
-      key_len = long;
-      accepted = room_accepted key long c.requires;
-      used_value = sym (used_is key long);
-      depth_value = sym (depth-at key long);
-      kept_value = search rules;
-    }
+pub kept_flags-flags-requires : goal.kept_flags-flags-requires
+kept_flags-flags-requires c = room_accepted c.args.key.now (search rules) c.requires
 
 pub returns-then-not-any_set : goal.returns-then-not-any_set
 returns-then-not-any_set c =
     let s = c.args.state in
     let key = c.args.key.now in
     let other = sym c.is_default.ensures ∙ c.if-is_default.false in
-    let h = refused_9 s key c.requires (nine s key _ _ false other c.kept_flags.ensures c.any_set.ensures c.if-not-any_set.true) in
+    let h = refused_9 s key c.requires (nine s key _ _ false other c.kept_flags-flags.ensures c.any_set.ensures c.if-not-any_set.true) in
     record {
       value = h.0;
       key = h.1;
     }
 
 pub bed_classed-requires : goal.bed_classed-requires
-bed_classed-requires c =
-    let key = c.args.key.now in
-    let long : length key ≡ 156 = search rules in
-    record {
-      key_len = long;
-      accepted = room_accepted key long c.requires;
-      used_value = sym (used_is key long);
-      depth_value = sym (depth-at key long);
-    }
+bed_classed-requires c = room_accepted c.args.key.now (search rules) c.requires
 
 pub returns-then-not-bed_classed : goal.returns-then-not-bed_classed
 returns-then-not-bed_classed c =
     let s = c.args.state in
     let key = c.args.key.now in
     let other = sym c.is_default.ensures ∙ c.if-is_default.false in
-    let yes = nine s key _ _ true other c.kept_flags.ensures c.any_set.ensures c.if-not-any_set.false in
+    let yes = nine s key _ _ true other c.kept_flags-flags.ensures c.any_set.ensures c.if-not-any_set.false in
     let h = refused_10 s key c.requires yes (sym c.bed_classed.ensures ∙ c.if-not-bed_classed.true) in
     record {
       value = h.0;
@@ -104,12 +87,12 @@ returns c =
     let long : length key ≡ 156 = search rules in
     let words : Words key = λ i. omega (arith, c.fits-key i) in
     let other = sym c.is_default.ensures ∙ c.if-is_default.false in
-    let yes = nine s key _ _ true other c.kept_flags.ensures c.any_set.ensures c.if-not-any_set.false in
+    let yes = nine s key _ _ true other c.kept_flags-flags.ensures c.any_set.ensures c.if-not-any_set.false in
     let ten = sym c.bed_classed.ensures ∙ c.if-not-bed_classed.false in
     record {
       value = answer_0 s key c.requires yes ten;
       key = c.pack_kept.ensures
-          ∙ ap (λ (f : List Bool). kept_key f key) c.kept_flags.ensures
+          ∙ ap (λ (f : List Bool). kept_key f key) c.kept_flags-flags.ensures
           ∙ kept_key_lem key long words (room_accepted key long c.requires) _
           ∙ ap (with_layers key) (sym (other_room s (room_in key) other))
           ∙ other_key s key c.requires yes ten other;

@@ -7,7 +7,7 @@ use Rattle.selector.proofs.Selector.project_outcome_with_epoch.Goals as goal
 
 pub returns : goal.returns
 returns c =
-    let e = c.project_outcome_with_epoch-reply.ensures in
+    let e = c.project_outcome_with_epoch-outcome.ensures in
     record {
       outcome_value = ap (λ (r : Reply). r.outcome) e.value;
       selector = ap₂ (λ (r : Reply) (k : List ℕ). record { keys = k; count = r.ring.count; oldest = r.ring.oldest }) e.value e.keys;

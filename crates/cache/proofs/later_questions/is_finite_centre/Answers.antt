@@ -1,5 +1,0 @@
--- The three answers together.
-use Rattle.cache.proofs.later_questions.is_finite_centre.Goals as goal
-
-pub returns : goal.returns
-returns c = rw (c.is_finite.ensures, c.is_finite-2.ensures, c.is_finite-3.ensures)
