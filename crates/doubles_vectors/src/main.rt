@@ -4,33 +4,12 @@
 // e approx_exp2, l approx_log2, i is_finite, b is_between 0 and 1, k clamp to 0 and 1.
 #![tactic(auto)]
 
+use record_io::Records;
 use std::io;
-use std::io::{BufReader, BufWriter, Read, Write};
+use std::io::{BufReader, BufWriter, Write};
 
 // A letter, a space, 16 digits and a line feed.
 const LINE: usize = 19;
-
-fn truth(b: bool) -> u64 {
-    if b { 1 } else { 0 }
-}
-
-// The 64 bits of n as those of a signed number.
-fn signed(n: u64) -> i64 {
-    if n < 0x8000_0000_0000_0000 {
-        n as i64
-    } else {
-        !((0xffff_ffff_ffff_ffff - n) as i64)
-    }
-}
-
-fn signed32(n: u64) -> i32 {
-    let low = n % 0x1_0000_0000;
-    if low < 0x8000_0000 {
-        low as i32
-    } else {
-        !((0xffff_ffff - low) as i32)
-    }
-}
 
 // The pattern of a function of a double: floor, sqrt, sine, cosine and the approximations.
 fn of_double(letter: u8, x: f64) -> u64 {
@@ -45,26 +24,16 @@ fn of_double(letter: u8, x: f64) -> u64 {
     })
 }
 
+// A letter is matched where its function is called, and goes nowhere else.
 fn answer(letter: u8, bits: u64) -> u64 {
     match letter {
-        b'p' => doubles::bits_of(doubles::pow2(signed(bits))),
-        b'q' => doubles::bits_of(doubles::pow2_i32(signed32(bits))),
+        b'p' => doubles::bits_of(doubles::pow2(bits.cast_signed())),
+        b'q' => doubles::bits_of(doubles::pow2_i32(((bits % 0x1_0000_0000) as u32).cast_signed())),
         b'g' => doubles::bits_of(doubles::pow2(doubles::floor_log2(doubles::of_bits(bits)))),
-        b'i' => truth(doubles::is_finite(doubles::of_bits(bits))),
-        b'b' => truth(doubles::is_between(0.0, 1.0, doubles::of_bits(bits))),
+        b'i' => u64::from(doubles::is_finite(doubles::of_bits(bits))),
+        b'b' => u64::from(doubles::is_between(0.0, 1.0, doubles::of_bits(bits))),
         _ => of_double(letter, doubles::of_bits(bits)),
     }
-}
-
-// One line; false at the end of the input.
-fn step<R: Read, W: Write>(input: &mut R, out: &mut W) -> io::Result<bool> {
-    let mut line = [0u8; 19];
-    if record_io::read_full(input, &mut line)? < LINE {
-        return Ok(false);
-    }
-    let letter = line[0];
-    put(out, letter, answer(letter, replay::hex(&line, 2)))?;
-    Ok(true)
 }
 
 fn put<W: Write>(out: &mut W, letter: u8, bits: u64) -> io::Result<()> {
@@ -72,18 +41,13 @@ fn put<W: Write>(out: &mut W, letter: u8, bits: u64) -> io::Result<()> {
     writeln!(out, "{bits:016x}")
 }
 
-// At most a million lines.
-fn run<R: Read, W: Write>(input: &mut R, out: &mut W) -> io::Result<()> {
-    for _ in 0..1_000_000 {
-        if !step(input, out)? {
-            break;
-        }
+fn main(rt: HostRuntime) -> io::Result<()> {
+    let input = BufReader::new(rt.alloc(), rt.stdin())?;
+    let mut out = BufWriter::new(rt.alloc(), io::writer(&rt))?;
+    for line in Records::<_, LINE>::new(input) {
+        let line = line?;
+        let letter = line[0];
+        put(&mut out, letter, answer(letter, replay::hex(&line, 2)))?;
     }
     out.flush()
-}
-
-fn main(rt: HostRuntime) -> io::Result<()> {
-    let mut input = BufReader::new(rt.alloc(), rt.stdin())?;
-    let mut out = BufWriter::new(rt.alloc(), io::writer(&rt))?;
-    run(&mut input, &mut out)
 }

@@ -12,70 +12,33 @@
 #![tactic(auto)]
 
 use extent::{Extent, Reading};
+use record_io::Records;
 use std::io;
-use std::io::{BufReader, BufWriter, Read, Write};
+use std::io::{BufReader, BufWriter, Write};
 
 // A letter, a space, 16 digits and a line feed.
 const LINE: usize = 19;
-
-fn set(e: Extent, letter: u8, v: f64) -> Extent {
-    match letter {
-        b'x' => Extent {
-            x: v,
-            y: e.y,
-            z: e.z,
-        },
-        b'y' => Extent {
-            x: e.x,
-            y: v,
-            z: e.z,
-        },
-        _ => Extent {
-            x: e.x,
-            y: e.y,
-            z: v,
-        },
-    }
-}
-
-fn read<W: Write>(out: &mut W, e: Extent) -> io::Result<()> {
-    let r = extent::read_extent(e);
-    match r {
-        Reading::Refused(q) => writeln!(out, "{q}"),
-        Reading::Read(mean, radius) => {
-            let bits = doubles::bits_of(radius);
-            writeln!(out, "{mean} {bits:016x}")
-        }
-    }
-}
 
 fn put<W: Write>(out: &mut W, x: f64) -> io::Result<()> {
     let bits = doubles::bits_of(x);
     writeln!(out, "{bits:016x}")
 }
 
-// Radius, exponent, shaping or kernel by itself.
-fn tell<W: Write>(out: &mut W, e: Extent, letter: u8, n: u64) -> io::Result<()> {
-    put(
-        out,
-        match letter {
-            b'd' => extent::extent_radius(doubles::of_bits(n)),
-            b'e' => extent::shaping_exponent(doubles::of_bits(n)),
-            b's' => extent::shaped(e.x, doubles::of_bits(n)),
-            _ => extent::compact_quartic_kernel(e.x, e.y, e.z, n == 1),
-        },
-    )
+fn read<W: Write>(out: &mut W, e: Extent) -> io::Result<()> {
+    match extent::read_extent(e) {
+        Err(no) => writeln!(out, "{no}"),
+        Ok(Reading { mean, radius }) => {
+            write!(out, "{mean} ")?;
+            put(out, radius)
+        }
+    }
 }
 
 // The mean of three components of a pattern, and what stands behind it.
 fn put_mean<W: Write>(out: &mut W, bits: u64, behind: u8) -> io::Result<()> {
     let v = doubles::of_bits(bits);
-    let r = extent::read_extent(Extent { x: v, y: v, z: v });
-    match r {
-        Reading::Refused(_) => {}
-        Reading::Read(mean, _) => {
-            write!(out, "{mean}")?;
-        }
+    if let Ok(Reading { mean, .. }) = extent::read_extent(Extent { x: v, y: v, z: v }) {
+        write!(out, "{mean}")?;
     }
     out.write_all(&[behind])
 }
@@ -94,42 +57,45 @@ fn put_halves<W: Write>(out: &mut W, from: u64) -> io::Result<()> {
     Ok(())
 }
 
-// One command.
-fn step<W: Write>(out: &mut W, e: Extent, letter: u8, n: u64) -> io::Result<Extent> {
-    if letter == b'r' {
-        read(out, e)?;
-        return Ok(e);
+// One command; a letter below x that has no other meaning tells the kernel.
+fn step<W: Write>(out: &mut W, e: &mut Extent, letter: u8, n: u64) -> io::Result<()> {
+    let v = doubles::of_bits(n);
+    match letter {
+        b'r' => read(out, *e),
+        b'h' => put_halves(out, n),
+        b'd' => put(out, extent::extent_radius(v)),
+        b'e' => put(out, extent::shaping_exponent(v)),
+        b's' => put(out, extent::shaped(e.x, v)),
+        _ if letter < b'x' => {
+            let kernel = extent::compact_quartic_kernel(e.x, e.y, e.z, n == 1);
+            put(out, kernel)
+        }
+        b'x' => {
+            e.x = v;
+            Ok(())
+        }
+        b'y' => {
+            e.y = v;
+            Ok(())
+        }
+        _ => {
+            e.z = v;
+            Ok(())
+        }
     }
-    if letter == b'h' {
-        put_halves(out, n)?;
-        return Ok(e);
-    }
-    if letter < b'x' {
-        tell(out, e, letter, n)?;
-        return Ok(e);
-    }
-    Ok(set(e, letter, doubles::of_bits(n)))
 }
 
-// A turn for each line, at most a million.
-fn run<R: Read, W: Write>(input: &mut R, out: &mut W) -> io::Result<()> {
+fn main(rt: HostRuntime) -> io::Result<()> {
+    let input = BufReader::new(rt.alloc(), rt.stdin())?;
+    let mut out = BufWriter::new(rt.alloc(), io::writer(&rt))?;
     let mut e = Extent {
         x: 0.0,
         y: 0.0,
         z: 0.0,
     };
-    for _ in 0..1_000_000 {
-        let mut line = [0u8; 19];
-        if record_io::read_full(input, &mut line)? < LINE {
-            break;
-        }
-        e = step(out, e, line[0], replay::hex(&line, 2))?;
+    for line in Records::<_, LINE>::new(input) {
+        let line = line?;
+        step(&mut out, &mut e, line[0], replay::hex(&line, 2))?;
     }
     out.flush()
-}
-
-fn main(rt: HostRuntime) -> io::Result<()> {
-    let mut input = BufReader::new(rt.alloc(), rt.stdin())?;
-    let mut out = BufWriter::new(rt.alloc(), io::writer(&rt))?;
-    run(&mut input, &mut out)
 }

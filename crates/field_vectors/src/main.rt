@@ -16,20 +16,17 @@
 #![tactic(auto)]
 
 use extent::{Extent, Reading};
-use layout::{Anchor, Centre, Channel, Layout};
+use layout::{Centre, Layout};
+use record_io::Records;
+use replay::Room;
 use std::io;
-use std::io::{BufReader, BufWriter, Read, Write};
+use std::io::{BufReader, BufWriter, Write};
 
 // Three digits, a space, 16 digits and a line feed.
 const LINE: usize = 21;
 
-#[derive(Clone, Copy)]
-pub struct State {
-    pub now: Layout,
-    pub name: u64,
-}
-
-// What a projection brings.
+// What a projection brings, all 24 point gains; the next one is put at `count`. A number of the store
+// is set at `index`.
 #[derive(Clone, Copy)]
 pub struct Object {
     pub extent: Extent,
@@ -40,240 +37,9 @@ pub struct Object {
     pub radius: f64,
 }
 
-fn add(l: Layout, k: u64, name: u64, v: u64) -> Layout {
-    match k {
-        902 => l.with_channel(Channel {
-            name: name,
-            enabled: v % 2 == 1,
-            lfe: v / 2 % 2 == 1,
-        }),
-        903 => l.with_layer(doubles::of_bits(v)),
-        904 => l.with_row(doubles::of_bits(v)),
-        _ => l.with_anchor(Anchor {
-            name: name,
-            x: doubles::of_bits(v),
-        }),
-    }
-}
-
-fn done(s: State, k: u64, v: u64) -> State {
-    let l = s.now;
-    let name = s.name;
-    if k == 900 {
-        return State {
-            now: Layout::new(),
-            name: name,
-        };
-    }
-    if k == 901 {
-        return State { now: l, name: v };
-    }
-    State {
-        now: add(l, k, name, v),
-        name: name,
-    }
-}
-
-// A hash and half a pattern more.
-fn mixed(h: u64, half: u64) -> u64 {
-    (h % 4294967291 * 65599 + half % 0x1_0000_0000) % 4294967291
-}
-
-// A hash over the doubles from `from` on, in order: of each the low half of its pattern and then the
-// high half. 0 where the store has no such part.
-fn hash(store: &[f64], from: usize, count: usize) -> u64 {
-    if store.len() < count {
-        return 0;
-    }
-    if store.len() - count < from {
-        return 0;
-    }
-    let end = from + count;
-    let mut h = 0u64;
-    let mut i = from;
-    while i < end {
-        let b = doubles::bits_of(store[i]);
-        h = mixed(mixed(h, b), b / 0x1_0000_0000);
-        i += 1;
-    }
-    h
-}
-
-fn spread(store: &mut [f64], x: f64) {
-    let mut i = 0usize;
-    while i < store.len() {
-        store[i] = x;
-        i += 1;
-    }
-}
-
-fn number(store: &[f64], i: usize) -> u64 {
-    if i < store.len() {
-        doubles::bits_of(store[i])
-    } else {
-        0
-    }
-}
-
-fn tell<W: Write>(out: &mut W, store: &mut [f64], l: Layout, k: u64, v: u64) -> io::Result<()> {
-    if k == 910 {
-        spread(store, doubles::of_bits(v));
-        return Ok(());
-    }
-    if k == 923 {
-        fill_often(store, l, v);
-        return Ok(());
-    }
-    if k == 920 {
-        return if fill(store, v as usize, l) {
-            out.write_all(b"1\n")
-        } else {
-            out.write_all(b"0\n")
-        };
-    }
-    if k == 921 {
-        let h = hash(
-            store,
-            (v / 0x1_0000_0000) as usize,
-            (v % 0x1_0000_0000) as usize,
-        );
-        writeln!(out, "{h}")
-    } else {
-        line_of(out, number(store, v as usize))
-    }
-}
-
-fn placed(o: Object, k: u64, x: f64) -> Object {
-    let mut e = o.extent;
-    let mut c = o.centre;
-    match k {
-        930 => {
-            e.x = x;
-        }
-        931 => {
-            e.y = x;
-        }
-        932 => {
-            e.z = x;
-        }
-        933 => {
-            c.x = x;
-        }
-        934 => {
-            c.y = x;
-        }
-        _ => {
-            c.z = x;
-        }
-    }
-    let points = o.points;
-    Object {
-        extent: e,
-        centre: c,
-        points: points,
-        count: o.count,
-        index: o.index,
-        radius: o.radius,
-    }
-}
-
-fn brought(o: Object, k: u64, v: u64) -> Object {
-    if k < 936 {
-        return placed(o, k, doubles::of_bits(v));
-    }
-    let mut next = o;
-    if k == 936 {
-        let at = next.count;
-        if at < 24 {
-            next.points[at] = doubles::of_bits(v);
-            next.count = at + 1;
-        }
-    } else if k == 937 {
-        next.count = 0;
-    } else if k == 942 {
-        next.radius = doubles::of_bits(v);
-    } else {
-        next.index = v as usize;
-    }
-    next
-}
-
-fn put(store: &mut [f64], i: usize, x: f64) {
-    if i < store.len() {
-        store[i] = x;
-    }
-}
-
-fn line_of<W: Write>(out: &mut W, bits: u64) -> io::Result<()> {
-    writeln!(out, "{bits:016x}")
-}
-
-fn lines_of<W: Write>(out: &mut W, gains: &[f64; 24], n: usize) -> io::Result<()> {
-    for i in 0..n {
-        if i < 24 {
-            line_of(out, doubles::bits_of(gains[i]))?;
-        }
-    }
-    Ok(())
-}
-
-fn project<W: Write>(out: &mut W, store: &[f64], l: Layout, o: Object, p: usize) -> io::Result<()> {
-    let e = o.extent;
-    let r = extent::read_extent(e);
-    match r {
-        Reading::Refused(q) => writeln!(out, "{q}"),
-        Reading::Read(mean, radius) => {
-            write!(out, "{mean} ")?;
-            line_of(out, doubles::bits_of(radius))?;
-            gains_of(out, store, l, o, p, mean, radius)
-        }
-    }
-}
-
-fn gains_of<W: Write>(
-    out: &mut W,
-    store: &[f64],
-    l: Layout,
-    o: Object,
-    p: usize,
-    mean: u64,
-    radius: f64,
-) -> io::Result<()> {
-    let mut gains = [7.0f64; 24];
-    let points = o.points;
-    let n = channels::active_count(l);
-    let c = o.centre;
-    if gains::project(
-        &mut gains,
-        store,
-        p,
-        n,
-        1 < l.depth,
-        mean,
-        radius,
-        c,
-        &points,
-    ) {
-        lines_of(out, &gains, n)
-    } else {
-        out.write_all(b"refused\n")
-    }
-}
-
-// What the lines so far have set.
-#[derive(Clone, Copy)]
-pub struct Setting {
-    pub state: State,
-    pub object: Object,
-}
-
-fn empty() -> Setting {
-    Setting {
-        state: State {
-            now: Layout::new(),
-            name: 0,
-        },
-        object: Object {
+impl Object {
+    fn new() -> Object {
+        Object {
             extent: Extent {
                 x: 0.0,
                 y: 0.0,
@@ -284,26 +50,85 @@ fn empty() -> Setting {
                 y: 0.0,
                 z: 0.0,
             },
-            points: [0.0f64; 24],
+            points: [0.0; 24],
             count: 0,
             index: 0,
             radius: 0.0,
-        },
+        }
     }
+
+    // One point gain more, where there is room for it.
+    fn add_point(&mut self, x: f64) {
+        let at = self.count;
+        if at < 24 {
+            self.points[at] = x;
+            self.count = at + 1;
+        }
+    }
+}
+
+fn put<W: Write>(out: &mut W, x: f64) -> io::Result<()> {
+    let bits = doubles::bits_of(x);
+    writeln!(out, "{bits:016x}")
+}
+
+// A hash over `count` doubles from `from` on; 0 where the store has no such part.
+fn hash(store: &[f64], from: usize, count: usize) -> u64 {
+    store
+        .get(from..)
+        .and_then(|rest| rest.get(..count))
+        .map_or(0, |part| replay::hash_doubles(part))
 }
 
 // Fills place p with the field of the layout's room.
 fn fill(store: &mut [f64], p: usize, l: Layout) -> bool {
-    let mut key = [0u64; 156];
-    keys::pack(l, 0, &mut key);
-    field::fill_place(store, p, &key)
+    field::fill_place(store, p, &keys::pack(l, 0))
 }
 
 fn fill_often(store: &mut [f64], l: Layout, count: u64) {
-    let mut left = count;
-    while 0 < left {
+    for _ in 0..count {
         fill(store, 0, l);
-        left -= 1;
+    }
+}
+
+fn gains_of<W: Write>(
+    out: &mut W,
+    store: &[f64],
+    l: Layout,
+    o: &Object,
+    p: usize,
+    mean: u64,
+    radius: f64,
+) -> io::Result<()> {
+    let mut gains = [7.0f64; 24];
+    let n = channels::active_count(l);
+    let is_deep = 1 < l.depth;
+    let is_done = gains::project(
+        &mut gains, store, p, n, is_deep, mean, radius, o.centre, &o.points,
+    );
+    if !is_done {
+        return out.write_all(b"refused\n");
+    }
+    for gain in &gains[..n.min(24)] {
+        put(out, *gain)?;
+    }
+    Ok(())
+}
+
+fn project<W: Write>(
+    out: &mut W,
+    store: &[f64],
+    l: Layout,
+    o: &Object,
+    p: usize,
+) -> io::Result<()> {
+    match extent::read_extent(o.extent) {
+        Err(no) => writeln!(out, "{no}"),
+        Ok(Reading { mean, radius }) => {
+            write!(out, "{mean} ")?;
+            put(out, radius)?;
+            gains_of(out, store, l, o, p, mean, radius)
+        }
     }
 }
 
@@ -314,121 +139,101 @@ fn moved(c: Centre, turn: u64) -> Centre {
     } else {
         Centre {
             x: c.x + 0.0078125,
-            y: c.y,
-            z: c.z,
+            ..c
         }
     }
 }
 
-fn project_once(
-    gains: &mut [f64],
-    store: &[f64],
-    o: Object,
-    n: usize,
-    deep: bool,
-    mean: u64,
-    radius: f64,
-    turn: u64,
-) {
-    let points = o.points;
-    let c = moved(o.centre, turn);
-    gains::project(gains, store, 0, n, deep, mean, radius, c, &points);
-}
-
-fn project_turns(
-    store: &[f64],
-    o: Object,
-    n: usize,
-    deep: bool,
-    mean: u64,
-    radius: f64,
-    count: u64,
-) {
-    let mut space = [0.0f64; 24];
-    let gains: &mut [f64] = &mut space;
-    let mut left = count;
-    while 0 < left {
-        project_once(gains, store, o, n, deep, mean, radius, left);
-        left -= 1;
+fn project_often(store: &[f64], l: Layout, o: &Object, count: u64) {
+    let Ok(Reading { mean, radius }) = extent::read_extent(o.extent) else {
+        return;
+    };
+    let n = channels::active_count(l);
+    let is_deep = 1 < l.depth;
+    let mut gains = [0.0f64; 24];
+    for turn in 0..count {
+        let c = moved(o.centre, turn);
+        gains::project(&mut gains, store, 0, n, is_deep, mean, radius, c, &o.points);
     }
 }
 
-fn project_often(store: &[f64], l: Layout, o: Object, count: u64) {
-    let e = o.extent;
-    let r = extent::read_extent(e);
-    match r {
-        Reading::Refused(_) => {}
-        Reading::Read(mean, radius) => {
-            project_turns(
-                store,
-                o,
-                channels::active_count(l),
-                1 < l.depth,
-                mean,
-                radius,
-                count,
-            );
-        }
-    }
+// What the lines so far have set.
+#[derive(Clone, Copy)]
+pub struct Setting {
+    pub room: Room,
+    pub object: Object,
 }
 
 // One command.
 fn step<W: Write>(
     out: &mut W,
     store: &mut [f64],
-    b: Setting,
+    s: &mut Setting,
     k: u64,
     v: u64,
-) -> io::Result<Setting> {
-    let s = b.state;
-    let o = b.object;
-    let l = s.now;
-    if k < 910 {
-        return Ok(Setting {
-            state: done(s, k, v),
-            object: o,
-        });
-    }
-    if k < 930 {
-        tell(out, store, l, k, v)?;
-        return Ok(b);
-    }
-    if (k < 939) | (k == 942) {
-        return Ok(Setting {
-            state: s,
-            object: brought(o, k, v),
-        });
-    }
-    if k == 939 {
-        put(store, o.index, doubles::of_bits(v));
-        return Ok(b);
-    }
-    if k == 940 {
-        project(out, store, l, o, v as usize)?;
-    } else if k == 943 {
-        gains_of(out, store, l, o, v as usize, 1, o.radius)?;
-    } else {
-        project_often(store, l, o, v);
-    }
-    Ok(b)
-}
-
-// A turn for each line, at most a million.
-fn run<R: Read, W: Write>(input: &mut R, out: &mut W, store: &mut [f64]) -> io::Result<()> {
-    let mut b = empty();
-    for _ in 0..1_000_000 {
-        let mut line = [0u8; 21];
-        if record_io::read_full(input, &mut line)? < LINE {
-            break;
+) -> io::Result<()> {
+    let x = doubles::of_bits(v);
+    let l = s.room.layout;
+    let o = &mut s.object;
+    match k {
+        0..=909 => s.room.obey(k, v),
+        910 => store.fill(x),
+        920 => {
+            let filled = u64::from(fill(store, v as usize, l));
+            return writeln!(out, "{filled}");
         }
-        b = step(out, store, b, replay::three(&line), replay::hex(&line, 4))?;
+        921 => {
+            let from = v / 0x1_0000_0000;
+            let count = v % 0x1_0000_0000;
+            let h = hash(store, from as usize, count as usize);
+            return writeln!(out, "{h}");
+        }
+        923 => fill_often(store, l, v),
+        911..=929 => {
+            let bits = store
+                .get(v as usize)
+                .map_or(0, |number| doubles::bits_of(*number));
+            return writeln!(out, "{bits:016x}");
+        }
+        930 => o.extent.x = x,
+        931 => o.extent.y = x,
+        932 => o.extent.z = x,
+        933 => o.centre.x = x,
+        934 => o.centre.y = x,
+        935 => o.centre.z = x,
+        936 => o.add_point(x),
+        937 => o.count = 0,
+        938 => o.index = v as usize,
+        939 => {
+            if let Some(number) = store.get_mut(o.index) {
+                *number = x;
+            }
+        }
+        940 => return project(out, store, l, o, v as usize),
+        942 => o.radius = x,
+        943 => return gains_of(out, store, l, o, v as usize, 1, o.radius),
+        _ => project_often(store, l, o, v),
     }
-    out.flush()
+    Ok(())
 }
 
 fn main(rt: HostRuntime) -> io::Result<()> {
-    let mut input = BufReader::new(rt.alloc(), rt.stdin())?;
+    let input = BufReader::new(rt.alloc(), rt.stdin())?;
     let mut out = BufWriter::new(rt.alloc(), io::writer(&rt))?;
     let mut store = [0.0f64; 285312];
-    run(&mut input, &mut out, &mut store)
+    let mut s = Setting {
+        room: Room::new(),
+        object: Object::new(),
+    };
+    for line in Records::<_, LINE>::new(input) {
+        let line = line?;
+        step(
+            &mut out,
+            &mut store,
+            &mut s,
+            replay::three(&line),
+            replay::hex(&line, 4),
+        )?;
+    }
+    out.flush()
 }

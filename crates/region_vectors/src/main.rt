@@ -12,119 +12,47 @@
 #![tactic(auto)]
 
 use classes::BedMatch;
-use layout::{Anchor, Channel, Layout};
-use region::{RegionHorizontalState, RegionSemanticState, RegionTopBottomState, Zones};
+use layout::Layout;
+use record_io::Records;
+use region::{RegionHorizontalState, RegionSemanticState, RegionTopBottomState};
+use replay::{Room, mixed};
 use std::io;
-use std::io::{BufReader, BufWriter, Read, Write};
+use std::io::{BufReader, BufWriter, Write};
 
 // Three digits, a space, 16 digits and a line feed.
 const LINE: usize = 21;
 
-#[derive(Clone, Copy)]
-pub struct State {
-    pub now: Layout,
-    pub name: u64,
-}
-
-fn add(l: Layout, k: u64, name: u64, v: u64) -> Layout {
-    match k {
-        902 => l.with_channel(Channel {
-            name: name,
-            enabled: v % 2 == 1,
-            lfe: v / 2 % 2 == 1,
-        }),
-        903 => l.with_layer(doubles::of_bits(v)),
-        904 => l.with_row(doubles::of_bits(v)),
-        _ => l.with_anchor(Anchor {
-            name: name,
-            x: doubles::of_bits(v),
-        }),
-    }
-}
-
-fn done(s: State, k: u64, v: u64) -> State {
-    let l = s.now;
-    let name = s.name;
-    if k == 900 {
-        return State {
-            now: Layout::new(),
-            name: name,
-        };
-    }
-    if k == 901 {
-        return State { now: l, name: v };
-    }
-    State {
-        now: add(l, k, name, v),
-        name: name,
-    }
-}
-
-fn put<W: Write>(out: &mut W, n: u64, end: &[u8]) -> io::Result<()> {
-    write!(out, "{n}")?;
-    out.write_all(end)
-}
-
-fn horizontal_of(n: u64) -> RegionHorizontalState {
-    match n {
-        0 => RegionHorizontalState::NoConstraints,
-        1 => RegionHorizontalState::BackExcluded,
-        2 => RegionHorizontalState::SideExcluded,
-        3 => RegionHorizontalState::CentreAndBack,
-        4 => RegionHorizontalState::ScreenOnly,
-        _ => RegionHorizontalState::SurroundOnly,
-    }
-}
-
-fn number_of(h: RegionHorizontalState) -> u64 {
-    match h {
-        RegionHorizontalState::NoConstraints => 0,
-        RegionHorizontalState::BackExcluded => 1,
-        RegionHorizontalState::SideExcluded => 2,
-        RegionHorizontalState::CentreAndBack => 3,
-        RegionHorizontalState::ScreenOnly => 4,
-        RegionHorizontalState::SurroundOnly => 5,
-    }
-}
-
-fn top_number(t: RegionTopBottomState) -> u64 {
-    match t {
-        RegionTopBottomState::Include => 1,
-        RegionTopBottomState::Exclude => 0,
-    }
-}
+// The horizontal states, each at its number.
+const HORIZONTAL: [RegionHorizontalState; 6] = [
+    RegionHorizontalState::NoConstraints,
+    RegionHorizontalState::BackExcluded,
+    RegionHorizontalState::SideExcluded,
+    RegionHorizontalState::CentreAndBack,
+    RegionHorizontalState::ScreenOnly,
+    RegionHorizontalState::SurroundOnly,
+];
 
 fn tell_state<W: Write>(out: &mut W, s: RegionSemanticState) -> io::Result<()> {
-    let h = s.horizontal;
-    let t = s.top;
-    put(out, number_of(h), b" ")?;
-    put(out, top_number(t), b" ")?;
-    put(out, region::is_default(s) as u64, b" ")?;
-    let flags = region::to_decoded_zones(s);
-    put(out, flags[0] as u64, b"")?;
-    put(out, flags[1] as u64, b"")?;
-    put(out, flags[2] as u64, b"")?;
-    put(out, flags[3] as u64, b"")?;
-    put(out, flags[4] as u64, b"")?;
-    put(out, flags[5] as u64, b"\n")
+    let horizontal = s.horizontal as u64;
+    let top = u64::from(region::is_include(s.top));
+    let default = u64::from(region::is_default(s));
+    write!(out, "{horizontal} {top} {default} ")?;
+    for flag in region::to_decoded_zones(s) {
+        let digit = u64::from(flag);
+        write!(out, "{digit}")?;
+    }
+    out.write_all(b"\n")
 }
 
 fn tell_flags<W: Write>(out: &mut W, v: u64) -> io::Result<()> {
-    let flags = [
-        v / 32 % 2 == 1,
-        v / 16 % 2 == 1,
-        v / 8 % 2 == 1,
-        v / 4 % 2 == 1,
-        v / 2 % 2 == 1,
-        v % 2 == 1,
-    ];
-    let z = region::from_decoded_zones(flags);
-    match z {
-        Zones::State(s) => tell_state(out, s),
-        Zones::Refused(n) => put(out, n, b"\n"),
+    let flags = std::array::from_fn(|i| v & (32 >> i) != 0);
+    match region::from_decoded_zones(flags) {
+        Ok(s) => tell_state(out, s),
+        Err(no) => writeln!(out, "{no}"),
     }
 }
 
+// By a match: the stored answers have 0 for dropped and 1 for kept, another order than the cases'.
 fn bed_number(b: BedMatch) -> u64 {
     match b {
         BedMatch::Dropped => 0,
@@ -133,159 +61,102 @@ fn bed_number(b: BedMatch) -> u64 {
     }
 }
 
-fn tell_bed<W: Write>(out: &mut W, h: u64, name: u64, five: bool) -> io::Result<()> {
-    let state = horizontal_of(h);
-    put(
-        out,
-        bed_number(classes::matches_bed_state(state, name, five)),
-        b"",
-    )
-}
-
 fn tell_name<W: Write>(out: &mut W, name: u64) -> io::Result<()> {
-    for h in 0..6 {
-        tell_bed(out, h, name, false)?;
-        tell_bed(out, h, name, true)?;
+    for state in HORIZONTAL {
+        let without = bed_number(classes::matches_bed_state(state, name, false));
+        let with = bed_number(classes::matches_bed_state(state, name, true));
+        write!(out, "{without}{with}")?;
     }
     out.write_all(b"\n")
 }
 
-// A hash and half a pattern more.
-fn mixed(h: u64, half: u64) -> u64 {
-    (h % 4294967291 * 65599 + half % 0x1_0000_0000) % 4294967291
+// The hash over pairs: what stands in a part of a key, and beside it what stands in another.
+fn hash_pairs(a: &[u64], b: &[u64]) -> u64 {
+    a.iter().zip(b).fold(0, |h, (x, y)| mixed(mixed(h, *x), *y))
 }
 
-fn word(h: u64, w: u64) -> u64 {
-    mixed(mixed(h, w), w / 0x1_0000_0000)
-}
-
-// The hash of n pairs: what stands in a key from a on, and beside it what stands from b on.
-fn hash_parts(key: &[u64; 156], a: usize, b: usize, n: usize) -> u64 {
-    let mut h = 0u64;
-    let mut i = 0usize;
-    while i < n {
-        h = word(word(h, entry(key, a, i)), entry(key, b, i));
-        i += 1;
-    }
-    h
-}
-
-// The i-th number of a key from a on; 0 past its end.
-fn entry(key: &[u64; 156], a: usize, i: usize) -> u64 {
-    if i < 156 {
-        if a < 156 - i { key[a + i] } else { 0 }
-    } else {
-        0
-    }
-}
-
-// The sum of n counts of a key from a on; 24 where it is more.
-fn count(key: &[u64; 156], a: usize, n: usize) -> u64 {
-    let mut s = 0usize;
-    let mut i = 0usize;
-    while i < n {
-        s = layout::next_start(s, entry(key, a, i) as usize);
-        i += 1;
-    }
-    s as u64
+// The sum of counts; 24 where it is more.
+fn sum(counts: &[u64]) -> usize {
+    counts
+        .iter()
+        .fold(0, |s, c| layout::next_start(s, *c as usize))
 }
 
 fn tell_room<W: Write>(out: &mut W, key: &[u64; 156]) -> io::Result<()> {
-    put(out, key[153], b" ")?;
-    put(out, count(key, 48, 4), b" ")?;
-    put(out, count(key, 52, 24), b" ")?;
-    put(out, hash_parts(key, 100, 48, 4), b" ")?;
-    put(out, hash_parts(key, 104, 52, 24), b" ")?;
-    put(out, hash_parts(key, 76, 128, 24), b"\n")
+    let depth = key[153];
+    let rows = sum(&key[48..52]);
+    let anchors = sum(&key[52..76]);
+    let layers_hash = hash_pairs(&key[100..104], &key[48..52]);
+    let rows_hash = hash_pairs(&key[104..128], &key[52..76]);
+    let anchors_hash = hash_pairs(&key[76..100], &key[128..152]);
+    writeln!(
+        out,
+        "{depth} {rows} {anchors} {layers_hash} {rows_hash} {anchors_hash}"
+    )
 }
 
 fn state_of(v: u64) -> RegionSemanticState {
-    let h = horizontal_of(v / 2);
-    let t = if v % 2 == 1 {
+    let top = if v % 2 == 1 {
         RegionTopBottomState::Include
     } else {
         RegionTopBottomState::Exclude
     };
     RegionSemanticState {
-        horizontal: h,
-        top: t,
+        horizontal: HORIZONTAL[(v / 2).min(5) as usize],
+        top,
     }
 }
 
-// The heights of a layout as they are, over those of its key, which has -0 as 0.
-fn put_heights(l: Layout, key: &mut [u64; 156]) {
-    let mut i = 0usize;
-    while i < 4 {
+// The numbers of a layout. Its heights, the y of its rows and the x of its anchors are as they are:
+// a key has -0 as 0.
+fn key_of(l: Layout) -> [u64; 156] {
+    let mut key = keys::pack(l, 0);
+    for i in 0..4 {
         key[100 + i] = doubles::bits_of(l.layers[i].z);
-        i += 1;
     }
-}
-
-// So the y of its rows and the x of its anchors.
-fn put_places(l: Layout, key: &mut [u64; 156]) {
-    let mut i = 0usize;
-    while i < 24 {
+    for i in 0..24 {
         key[104 + i] = doubles::bits_of(l.rows[i].y);
         key[128 + i] = doubles::bits_of(l.anchors[i].x);
-        i += 1;
     }
+    key
 }
 
 fn tell_selected<W: Write>(out: &mut W, l: Layout, v: u64) -> io::Result<()> {
-    let s = state_of(v);
-    let mut key = [0u64; 156];
-    keys::pack(l, 0, &mut key);
-    put_heights(l, &mut key);
-    put_places(l, &mut key);
-    let refusal = selection::derive_selected_layout(&mut key, s);
-    if refusal == 0 {
-        put(out, 0, b" ")?;
-        tell_room(out, &key)
-    } else {
-        put(out, refusal, b"\n")
-    }
-}
-
-fn tell<W: Write>(out: &mut W, s: State, k: u64, v: u64) -> io::Result<()> {
-    let l = s.now;
-    if k == 910 {
-        tell_flags(out, v)
-    } else if k == 911 {
-        tell_name(out, v)
-    } else {
-        tell_selected(out, l, v)
-    }
-}
-
-// One line.
-fn step<W: Write>(out: &mut W, s: State, line: &[u8; 21]) -> io::Result<State> {
-    let k = replay::three(line);
-    let v = replay::hex(line, 4);
-    if k < 910 {
-        return Ok(done(s, k, v));
-    }
-    tell(out, s, k, v)?;
-    Ok(s)
-}
-
-// A turn for each line, at most a million.
-fn run<R: Read, W: Write>(input: &mut R, out: &mut W) -> io::Result<()> {
-    let mut s = State {
-        now: Layout::new(),
-        name: 0,
-    };
-    for _ in 0..1_000_000 {
-        let mut line = [0u8; 21];
-        if record_io::read_full(input, &mut line)? < LINE {
-            break;
+    let mut key = key_of(l);
+    match selection::derive_selected_layout(&mut key, state_of(v)) {
+        Ok(()) => {
+            out.write_all(b"0 ")?;
+            tell_room(out, &key)
         }
-        s = step(out, s, &line)?;
+        Err(no) => writeln!(out, "{no}"),
     }
-    out.flush()
+}
+
+// One command.
+fn step<W: Write>(out: &mut W, room: &mut Room, k: u64, v: u64) -> io::Result<()> {
+    match k {
+        0..=909 => {
+            room.obey(k, v);
+            Ok(())
+        }
+        910 => tell_flags(out, v),
+        911 => tell_name(out, v),
+        _ => tell_selected(out, room.layout, v),
+    }
 }
 
 fn main(rt: HostRuntime) -> io::Result<()> {
-    let mut input = BufReader::new(rt.alloc(), rt.stdin())?;
+    let input = BufReader::new(rt.alloc(), rt.stdin())?;
     let mut out = BufWriter::new(rt.alloc(), io::writer(&rt))?;
-    run(&mut input, &mut out)
+    let mut room = Room::new();
+    for line in Records::<_, LINE>::new(input) {
+        let line = line?;
+        step(
+            &mut out,
+            &mut room,
+            replay::three(&line),
+            replay::hex(&line, 4),
+        )?;
+    }
+    out.flush()
 }

@@ -1,14 +1,22 @@
-// What the programs that replay answers share: numbers read from a line of text.
+// What the programs that replay answers share: numbers read from a line of text, the layout that
+// commands make, and a hash.
 #![tactic(auto)]
 
-ghost use Rattle.std.specs.Prelude.{◌≡◌};
+ghost use Rattle.std.specs.Prelude.{◌≡◌, ◌<◌};
 ghost use Rattle.replay.specs.Hex.{digit_of, hex_of, three_of, packed_of};
+
+mod hash;
+mod room;
+
+pub use hash::{hash_doubles, mixed};
+pub use room::Room;
 
 // The value of a hexadecimal digit, of either case.
 pub fn digit(c: u8) -> u64
-    ensures { result ≡ digit_of c }
+    ensures value { result ≡ digit_of c }
+    ensures small { result < 16 }
 {
-    let d = c as u64;
+    let d = u64::from(c);
     if d < 58 { d % 16 } else { (d + 9) % 16 }
 }
 
@@ -16,47 +24,33 @@ pub fn digit(c: u8) -> u64
 pub fn hex(text: &[u8], from: usize) -> u64
     ensures { result ≡ hex_of text.now from }
 {
-    if text.len() < 16 {
+    if text.len() < 16 || text.len() - 16 < from {
         return 0;
     }
-    if text.len() - 16 < from {
-        return 0;
-    }
-    let end = from + 16;
-    let mut n = 0u64;
-    let mut i = from;
-    while i < end {
-        n = n % 0x1000_0000_0000_0000 * 16 + digit(text[i]);
-        i += 1;
-    }
-    n
+    text[from..from + 16]
+        .iter()
+        .fold(0, |n, c| n % 0x1000_0000_0000_0000 * 16 + digit(*c))
 }
 
 // The number that the three digits in front stand for; 0 where the text has fewer.
 pub fn three(text: &[u8]) -> u64
     ensures { result ≡ three_of text.now }
 {
-    if text.len() < 3 {
-        return 0;
+    match text {
+        [a, b, c, ..] => digit(*a) * 100 + digit(*b) * 10 + digit(*c),
+        _ => 0,
     }
-    digit(text[0]) * 100 + digit(text[1]) * 10 + digit(text[2])
 }
 
 // The bytes from `from` to `to` as a number, the first lowest; 0 where the text ends before `to`.
 pub fn packed(text: &[u8], from: usize, to: usize) -> u64
     ensures { result ≡ packed_of text.now from to }
 {
-    if text.len() < to {
+    if text.len() < to || to < from {
         return 0;
     }
-    if to <= from {
-        return 0;
-    }
-    let mut sum = 0u64;
-    let mut i = to;
-    while from < i {
-        i -= 1;
-        sum = sum % 0x100_0000_0000_0000 * 256 + (text[i] as u64);
-    }
-    sum
+    text[from..to]
+        .iter()
+        .rev()
+        .fold(0, |n, c| n % 0x100_0000_0000_0000 * 256 + u64::from(*c))
 }

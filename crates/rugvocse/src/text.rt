@@ -1,92 +1,58 @@
 // Tokens of a line.
-#[derive(Clone, Copy)]
-pub struct Token {
-    pub from: usize,
-    pub to: usize,
+ghost use Rattle.std.specs.Prelude.{length};
+ghost use Rattle.std.specs.Iterator.{at_most};
+
+// What is left of a line: its tokens, parted by spaces.
+#[derive(Clone, Copy, Drop)]
+pub struct Tokens<'a> {
+    rest: &'a [u8],
 }
 
-// The classes of bytes that a token can be made of.
-#[derive(Clone, Copy)]
-pub enum Class {
-    Plain,
-    Hex,
-    Flag,
-}
+impl<'a> Iterator for Tokens<'a> {
+    type Item = &'a [u8];
 
-// The i'th byte; 0 past the end.
-pub fn byte(line: &[u8], i: usize) -> u8 {
-    if i < line.len() { line[i] } else { 0 }
-}
+    ghost remaining = { λ s. at_most (length s.rest.now) };
 
-// The i'th byte from `from` on; 0 past the end.
-pub fn letter(line: &[u8], from: usize, i: usize) -> u8 {
-    if line.len() <= from {
-        return 0;
+    fn next(&mut self) -> Option<&'a [u8]> {
+        let rest = self.rest;
+        let from = rest.iter().position(|c| *c != b' ')?;
+        let begun = &rest[from..];
+        let to = begun.iter().position(|c| *c == b' ').unwrap_or(begun.len());
+        self.rest = &begun[to..];
+        Some(&begun[..to])
     }
-    if line.len() - from <= i {
-        return 0;
+}
+
+impl<'a> Tokens<'a> {
+    pub fn new(line: &'a [u8]) -> Tokens<'a> {
+        Tokens { rest: line }
     }
-    line[from + i]
-}
 
-pub fn wide(b: u8) -> u64 {
-    b as u64
-}
-
-// Where the run of spaces, or of other bytes, from `at` on ends.
-fn run_end(line: &[u8], length: usize, at: usize, spaces: bool) -> usize {
-    let mut i = at;
-    while i < length {
-        if (byte(line, i) == b' ') != spaces {
-            return i;
+    // Passes over the next token where it is this word.
+    pub fn skip_word(&mut self, w: &[u8]) -> bool {
+        let mut after = *self;
+        let is_next = after.next().is_some_and(|token| word(token) == w);
+        if is_next {
+            *self = after;
         }
-        i += 1;
+        is_next
     }
-    i
-}
 
-// The next token from `at` on; an empty one at the end of the line.
-pub fn next(line: &[u8], length: usize, at: usize) -> Token {
-    let from = run_end(line, length, at, true);
-    let to = run_end(line, length, from, false);
-    Token { from: from, to: to }
-}
-
-pub fn size(t: Token) -> usize {
-    if t.from < t.to { t.to - t.from } else { 0 }
-}
-
-// Whether no token is left from `at` on.
-pub fn is_done(line: &[u8], length: usize, at: usize) -> bool {
-    size(next(line, length, at)) == 0
-}
-
-// The bytes of a token of at most eight, the first lowest; 0 for an empty or a longer one.
-pub fn packed(line: &[u8], t: Token) -> u64 {
-    if 8 < size(t) {
-        return 0;
-    }
-    replay::packed(line, t.from, t.to)
-}
-
-fn is_of(k: Class, c: u8) -> bool {
-    match k {
-        Class::Plain => (33 <= c) & (c <= 126),
-        Class::Hex => {
-            ((b'0' <= c) & (c <= b'9')) | ((b'a' <= c) & (c <= b'f')) | ((b'A' <= c) & (c <= b'F'))
+    // Nothing, where a token is left.
+    pub fn end(mut self) -> Option<()> {
+        match self.next() {
+            None => Some(()),
+            Some(_) => None,
         }
-        Class::Flag => (c == b'T') | (c == b'F'),
     }
 }
 
-// Whether every byte from `from` to `to` is of the class.
-pub fn are_of(k: Class, line: &[u8], from: usize, to: usize) -> bool {
-    let mut i = from;
-    while i < to {
-        if !is_of(k, byte(line, i)) {
-            return false;
-        }
-        i += 1;
+// The word that a token of at most eight bytes is: zeros at its end do not count. A longer token is
+// no word.
+pub fn word(token: &[u8]) -> &[u8] {
+    if 8 < token.len() {
+        return &token[..0];
     }
-    true
+    let to = token.iter().rposition(|c| *c != 0).map_or(0, |i| i + 1);
+    &token[..to]
 }

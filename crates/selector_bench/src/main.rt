@@ -10,195 +10,88 @@
 #![tactic(auto)]
 
 use extent::Extent;
-use layout::{Anchor, Centre, Channel, Layout};
+use layout::Centre;
+use record_io::Records;
+use replay::Room;
 use selector::Ring;
 use std::io;
-use std::io::{BufReader, BufWriter, Read, Write};
+use std::io::{BufReader, BufWriter, Write};
 
 // Three digits, a space, 16 digits and a line feed.
 const LINE: usize = 21;
 
-#[derive(Clone, Copy)]
-pub struct Room {
-    pub layout: Layout,
-    pub name: u64,
-    pub flags: [bool; 6],
-}
-
-fn add(l: Layout, k: u64, name: u64, v: u64) -> Layout {
-    match k {
-        900 => Layout::new(),
-        902 => l.with_channel(Channel {
-            name: name,
-            enabled: v % 2 == 1,
-            lfe: v / 2 % 2 == 1,
-        }),
-        903 => l.with_layer(doubles::of_bits(v)),
-        904 => l.with_row(doubles::of_bits(v)),
-        _ => l.with_anchor(Anchor {
-            name: name,
-            x: doubles::of_bits(v),
-        }),
-    }
-}
-
-fn flags_of(v: u64) -> [bool; 6] {
-    [
-        v % 2 == 1,
-        v / 2 % 2 == 1,
-        v / 4 % 2 == 1,
-        v / 8 % 2 == 1,
-        v / 16 % 2 == 1,
-        v / 32 % 2 == 1,
-    ]
-}
-
 // The centre, a little to the right every other turn.
 fn centre(turn: u64) -> Centre {
-    if turn % 2 == 0 {
-        Centre {
-            x: 0.2,
-            y: 0.5,
-            z: 0.4,
-        }
-    } else {
-        Centre {
-            x: 0.2078125,
-            y: 0.5,
-            z: 0.4,
-        }
+    Centre {
+        x: if turn % 2 == 0 { 0.2 } else { 0.2078125 },
+        y: 0.5,
+        z: 0.4,
     }
 }
 
-fn call(
-    words: &mut [u64; 1248],
+// So many calls, each of the epoch of its turn; how many keys are held then. There are as many point
+// gains as active channels.
+fn turns<F: Fn(u64) -> u64>(
     store: &mut [f64],
-    gains: &mut [f64],
-    points: &[f64],
-    l: Layout,
+    room: &Room,
     flags: [bool; 6],
-    r: Ring,
-    epoch: u64,
-    turn: u64,
-) -> Ring {
+    count: u64,
+    epoch_of: F,
+) -> usize
+    requires { F.IsAlwaysCallable epoch_of }
+{
+    let l = room.layout;
     let e = Extent {
         x: 0.45,
         y: 0.45,
         z: 0.45,
     };
-    let c = centre(turn);
-    let reply = selector::project_outcome_with_epoch(
-        words, r, store, l, epoch, e, flags, c, points, gains,
-    );
-    reply.ring
-}
-
-fn epoch_of(built: bool, turn: u64) -> u64 {
-    if built { turn } else { 7 }
-}
-
-fn turns(
-    store: &mut [f64],
-    points: &[f64],
-    l: Layout,
-    flags: [bool; 6],
-    built: bool,
-    count: u64,
-) -> Ring {
+    let points = [0.3f64; 24];
+    let n = channels::active_count(l).min(24);
     let mut words = [0u64; 1248];
-    let mut space = [0.0f64; 24];
-    let gains: &mut [f64] = &mut space;
-    let mut r = Ring {
+    let mut gains = [0.0f64; 24];
+    let mut ring = Ring {
         count: 0,
         oldest: 0,
     };
-    let mut left = count;
-    while 0 < left {
-        r = call(
+    for turn in (1..=count).rev() {
+        let reply = selector::project_outcome_with_epoch(
             &mut words,
+            ring,
             store,
-            gains,
-            points,
             l,
+            epoch_of(turn),
+            e,
             flags,
-            r,
-            epoch_of(built, left),
-            left,
+            centre(turn),
+            &points[..n],
+            &mut gains,
         );
-        left -= 1;
+        ring = reply.ring;
     }
-    r
-}
-
-// As many point gains as there are active channels.
-fn call_often<W: Write>(
-    out: &mut W,
-    store: &mut [f64],
-    l: Layout,
-    flags: [bool; 6],
-    built: bool,
-    count: u64,
-) -> io::Result<()> {
-    let space = [0.3f64; 24];
-    let points: &[f64] = &space;
-    let n = channels::active_count(l);
-    if points.len() < n {
-        return Ok(());
-    }
-    let r = turns(store, &points[..n], l, flags, built, count);
-    let held = r.count;
-    writeln!(out, "{held}")
-}
-
-// One command.
-fn step<W: Write>(out: &mut W, store: &mut [f64], b: Room, k: u64, v: u64) -> io::Result<Room> {
-    let l = b.layout;
-    let flags = b.flags;
-    if k == 901 {
-        return Ok(Room {
-            layout: l,
-            name: v,
-            flags: flags,
-        });
-    }
-    if k < 910 {
-        return Ok(Room {
-            layout: add(l, k, b.name, v),
-            name: b.name,
-            flags: flags,
-        });
-    }
-    if k == 950 {
-        return Ok(Room {
-            layout: l,
-            name: b.name,
-            flags: flags_of(v),
-        });
-    }
-    call_often(out, store, l, flags, k == 952, v)?;
-    Ok(b)
-}
-
-// A turn for each line, at most a million.
-fn run<R: Read, W: Write>(input: &mut R, out: &mut W, store: &mut [f64]) -> io::Result<()> {
-    let mut b = Room {
-        layout: Layout::new(),
-        name: 0,
-        flags: [true; 6],
-    };
-    for _ in 0..1_000_000 {
-        let mut line = [0u8; 21];
-        if record_io::read_full(input, &mut line)? < LINE {
-            break;
-        }
-        b = step(out, store, b, replay::three(&line), replay::hex(&line, 4))?;
-    }
-    out.flush()
+    ring.count
 }
 
 fn main(rt: HostRuntime) -> io::Result<()> {
-    let mut input = BufReader::new(rt.alloc(), rt.stdin())?;
+    let input = BufReader::new(rt.alloc(), rt.stdin())?;
     let mut out = BufWriter::new(rt.alloc(), io::writer(&rt))?;
     let mut store = [0.0f64; 285312];
-    run(&mut input, &mut out, &mut store)
+    let mut room = Room::new();
+    let mut flags = [true; 6];
+    for line in Records::<_, LINE>::new(input) {
+        let line = line?;
+        let v = replay::hex(&line, 4);
+        match replay::three(&line) {
+            k if k < 910 => room.obey(k, v),
+            950 => flags = std::array::from_fn(|i| v & (1 << i) != 0),
+            k => {
+                let is_built = k == 952;
+                let held = turns(&mut store, &room, flags, v, |turn| {
+                    if is_built { turn } else { 7 }
+                });
+                writeln!(out, "{held}")?;
+            }
+        }
+    }
+    out.flush()
 }

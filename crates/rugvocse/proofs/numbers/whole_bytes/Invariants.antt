@@ -1,6 +1,0 @@
--- `rugvocse::numbers::whole_bytes` is safe and ends. Assumes nothing.
-use Rattle.std.proofs.Common.{◌-◌}
-use Rattle.rugvocse.proofs.numbers.whole_bytes.Given as goal
-
-abbrev pub decreases-loop-i : goal.decreases-loop-i
-decreases-loop-i l = l.to - l.i
