@@ -20,7 +20,10 @@ cosine_range a h lo hi = circular.cosine_range a h lo hi
 
 -- ---- `approx_exp2`
 
--- it is never negative, and always finite
+-- it is a double, never negative, and always finite
+pub exp2_fits : (v : Float) → T (fits binary64 (exp2_of v))
+exp2_fits v = exponential.exp2_fits v
+
 pub exp2_clear : (v : Float) → T (fits binary64 v) → T (clear (exp2_of v))
 exp2_clear v h = exponential.exp2_clear v h
 

@@ -30,11 +30,12 @@ fn alternating_series(factorials: &[u64], y: f64) -> f64
     requires factorials_exact { T (exact factorials.now) }
     ensures { result ≡ series y factorials.now }
 {
+    // By place: `split_last` would need an arm for no factorials, which no caller has.
     let last = factorials.len() - 1;
     let mut r = 1.0 / (factorials[last] as f64);
     // Not a fold: its closure would have to show that each factorial is exact as a double.
-    for i in (0..last).rev() {
-        r = 1.0 / (factorials[i] as f64) - y * r;
+    for f in factorials[..last].iter().rev() {
+        r = 1.0 / (*f as f64) - y * r;
     }
     r
 }

@@ -7,6 +7,7 @@ ghost use Rattle.approximations.specs.Exp2.{exp2_of};
 ghost use Rattle.approximations.specs.Log2.{log2_of};
 ghost use Rattle.approximations.specs.Powers.{power_of};
 
+use crate::each::change_each;
 use crate::exp2::{approx_exp2, exp2_near, is_near};
 use crate::log2::{approx_log2, is_normal, log2_normal};
 
@@ -15,22 +16,7 @@ fn are_common<C: Fn(f64) -> bool>(y: &[f64], is_common: C) -> bool
     requires { C.IsAlwaysCallable is_common }
     ensures { result ≡ true → All (λ v. C.post is_common v true) y.now }
 {
-    let mut all = true;
-    for v in y {
-        all &= is_common(*v);
-    }
-    all
-}
-
-// Each of y becomes f of it.
-fn change_each<F: Fn(f64) -> f64>(y: &mut [f64], f: F)
-    requires { All (F.pre f) y.old }
-    ensures { (g : Float → Float) → ((v r : Float) → F.post f v r → r ≡ g v) →
-        y.new ≡ map g y.old }
-{
-    for x in y.iter_mut() {
-        *x = f(*x);
-    }
+    y.iter().fold(true, |all, v| all & is_common(*v))
 }
 
 // Two to each of y.
@@ -38,9 +24,9 @@ pub fn approx_exp2_each(y: &mut [f64])
     ensures { y.new ≡ map exp2_of y.old }
 {
     if are_common(y, is_near) {
-        change_each(y, exp2_near);
+        change_each(y, |_, v| exp2_near(v));
     } else {
-        change_each(y, approx_exp2);
+        change_each(y, |_, v| approx_exp2(v));
     }
 }
 
@@ -50,9 +36,9 @@ fn logs(y: &mut [f64], exponent: f64)
     ensures { y.new ≡ map (λ (v : Float). exponent ⊗ log2_of v) y.old }
 {
     if are_common(y, is_normal) {
-        change_each(y, |v| exponent * log2_normal(v));
+        change_each(y, |_, v| exponent * log2_normal(v));
     } else {
-        change_each(y, |v| exponent * approx_log2(v));
+        change_each(y, |_, v| exponent * approx_log2(v));
     }
 }
 

@@ -1,7 +1,7 @@
 -- The sums of the definition are the two sides of the alternating sum; and they don't depend on how the fraction p / q is written. Assumes nothing.
 use mathlib.Core.Path.{◌≡◌, refl, sym, ap, ap₂, ◌∙◌}
 use Prim.Native.Nat.{ℕ, zero, suc, ◌+◌, ◌-◌, ◌*◌, ◌/◌, ◌^◌, ◌≤◌}
-use native.Mathlib.Nat.{mul_comm, mul_assoc, mul-mul-mul_comm, pow-suc, pow-zero, add-sub_of_le, mul-zero}
+use native.Mathlib.Nat.{mul_comm, mul_assoc, pow-suc, add-sub_of_le, mul-zero, zero-mul, add-mul}
 use native.Mathlib.Omega.{arith}
 use mathlib.Core.Bool.{Bool, true, false, ◌&&◌}
 use mathlib.Core.List.{List, [], ◌∷◌}
@@ -9,17 +9,14 @@ use lib.Dec.{T, leb, leb→le}
 use lib.Pow.{pow-add}
 use lib.ListN.{length}
 use lib.Ieee.Fits.{and_l, and_r}
+use Rattle.std.proofs.lemmas.Nat.{mul-pow}
 use Rattle.circular_law.specs.Law.{factorial, terms}
 use Rattle.circular_law.proofs.Alternating.{side}
 use Rattle.circular_law.proofs.Series.{quotients}
 
 -- ---- powers
-mul_pow : (a b n : ℕ) → (a * b) ^ n ≡ a ^ n * b ^ n
-mul_pow a b zero = pow-zero (a * b) ∙ sym (ap₂ ◌*◌ (pow-zero a) (pow-zero b))
-mul_pow a b (suc n) = pow-suc (a * b) n ∙ ap (λ (z : ℕ). z * (a * b)) (mul_pow a b n) ∙ mul-mul-mul_comm (a ^ n) (b ^ n) a b ∙ sym (ap₂ ◌*◌ (pow-suc a n) (pow-suc b n))
-
 pub square_pow : (q m : ℕ) → (q * q) ^ m ≡ q ^ (m + m)
-square_pow q m = mul_pow q q m ∙ sym (pow-add q m m)
+square_pow q m = mul-pow q q m ∙ sym (pow-add q m m)
 
 -- ---- m factorials, e! first, and every other one; the exponents that are added (true) and those that are taken off
 abbrev pub factorials : ℕ → ℕ → List ℕ
@@ -69,23 +66,17 @@ up_to n (e ∷ es) = leb e n && up_to n es
 
 term_scaled : (c p q k n e : ℕ) → e ≤ n → c * (p * k) ^ e * (q * k) ^ (n - e) ≡ c * p ^ e * q ^ (n - e) * k ^ n
 term_scaled c p q k n e l =
-    ap₂ (λ (x y : ℕ). c * x * y) (mul_pow p k e) (mul_pow q k (n - e)) ∙ regroup c (p ^ e) (k ^ e) (q ^ (n - e)) (k ^ (n - e))
+    ap₂ (λ (x y : ℕ). c * x * y) (mul-pow p k e) (mul-pow q k (n - e)) ∙ regroup c (p ^ e) (k ^ e) (q ^ (n - e)) (k ^ (n - e))
     ∙ ap (λ (z : ℕ). c * p ^ e * q ^ (n - e) * z) (sym (pow-add k e (n - e)) ∙ ap (λ (z : ℕ). k ^ z) (add-sub_of_le l))
   where
     regroup : (c a b d g : ℕ) → c * (a * b) * (d * g) ≡ c * a * d * (b * g)
     regroup c a b d g = omega arith
 
 terms_scaled : (n p q k : ℕ) (es : List ℕ) → T (up_to n es) → terms n (p * k) (q * k) es ≡ terms n p q es * k ^ n
-terms_scaled n p q k [] t = sym (zero_times (k ^ n))
-  where
-    zero_times : (z : ℕ) → 0 * z ≡ 0
-    zero_times z = omega arith
+terms_scaled n p q k [] t = sym (zero-mul (k ^ n))
 terms_scaled n p q k (e ∷ es) t =
     let c = factorial n / factorial e in
-    ap₂ ◌+◌ (term_scaled c p q k n e (leb→le e n (and_l (leb e n) (up_to n es) t))) (terms_scaled n p q k es (and_r (leb e n) (up_to n es) t)) ∙ together (c * p ^ e * q ^ (n - e)) (terms n p q es) (k ^ n)
-  where
-    together : (a b z : ℕ) → a * z + b * z ≡ (a + b) * z
-    together a b z = omega arith
+    ap₂ ◌+◌ (term_scaled c p q k n e (leb→le e n (and_l (leb e n) (up_to n es) t))) (terms_scaled n p q k es (and_r (leb e n) (up_to n es) t)) ∙ sym (add-mul (c * p ^ e * q ^ (n - e)) (terms n p q es) (k ^ n))
 
 -- p / q and r / s are the same
 pub terms_same : (n p q r s : ℕ) (es : List ℕ) → T (up_to n es) → p * s ≡ r * q → terms n p q es * s ^ n ≡ terms n r s es * q ^ n

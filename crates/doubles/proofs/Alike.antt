@@ -30,11 +30,11 @@ pub alike_path : {x y : Float} → x ≡ y → Alike x y
 alike_path {x} e = subst (Alike x) e (same x)
 
 -- ---- doubles that are equal as numbers are alike
-same_signs : (s t : Bool) → T (beq s t) → s ≡ t
-same_signs true true h = refl
-same_signs true false h = absurd h
-same_signs false true h = absurd h
-same_signs false false h = refl
+pub beq→eq : (s t : Bool) → T (beq s t) → s ≡ t
+beq→eq true true h = refl
+beq→eq true false h = absurd h
+beq→eq false true h = absurd h
+beq→eq false false h = refl
 
 -- a size of 0 is that of a zero
 no_size : (s : Bool) (m : ℕ) (e g : ℤ) → T (fits binary64 (fin s m e)) → m * up e * down g ≡ 0 → fin s m e ≡ signed s
@@ -45,13 +45,13 @@ pub alike_of : (x y : Float) → T (fits binary64 x) → T (fits binary64 y) →
 unfolding eq
 alike_of nan y h k q = absurd q
 alike_of (inf s) nan h k q = absurd q
-alike_of (inf s) (inf t) h k q = alike_path (ap inf (same_signs s t q))
+alike_of (inf s) (inf t) h k q = alike_path (ap inf (beq→eq s t q))
 alike_of (inf s) (fin t n d) h k q = absurd q
 alike_of (fin s m e) nan h k q = absurd q
 alike_of (fin s m e) (inf t) h k q = absurd q
 alike_of (fin s m e) (fin t n d) h k q =
     ⊎_elim
-    (λ u. alike_path (same_value binary64 (fin s m e) (fin t n d) t (n * up d) (down d) (down_pos d) h k (same_signs s t u, z) (refl, refl)))
+    (λ u. alike_path (same_value binary64 (fin s m e) (fin t n d) t (n * up d) (down d) (down_pos d) h k (beq→eq s t u, z) (refl, refl)))
     (λ u.
     let r = eqb→eq A 0 u in
     rw (no_size s m e d h r, no_size t n d e k (sym z ∙ r)) (zeros s t))
@@ -72,9 +72,6 @@ alike_of (fin s m e) (fin t n d) h k q =
 -- ---- comparisons
 
 -- the size of a zero
-none : (m : ℕ) → 0 * m ≡ 0
-none m = zero-mul m
-
 below_left : (a : ℕ) (t : Bool) (b : ℕ) → a ≡ 0 → below true a t b ≡ below false a t b
 below_left a true b e = rw e (le-ltb b 0 (omega arith))
 below_left a false b e = rw (e, zero-add)
@@ -99,25 +96,25 @@ lt_left : (u : Float) → lt (signed true) u ≡ lt (signed false) u
 unfolding lt
 lt_left nan = refl
 lt_left (inf t) = refl
-lt_left (fin t n d) = below_left (0 * 1 * down d) t (n * up d * 1) (none (down d))
+lt_left (fin t n d) = below_left (0 * 1 * down d) t (n * up d * 1) (zero-mul (down d))
 
 lt_right : (u : Float) → lt u (signed true) ≡ lt u (signed false)
 unfolding lt
 lt_right nan = refl
 lt_right (inf t) = refl
-lt_right (fin t n d) = below_right t (n * up d * 1) (0 * 1 * down d) (none (down d))
+lt_right (fin t n d) = below_right t (n * up d * 1) (0 * 1 * down d) (zero-mul (down d))
 
 eq_left : (u : Float) → eq (signed true) u ≡ eq (signed false) u
 unfolding eq
 eq_left nan = refl
 eq_left (inf t) = refl
-eq_left (fin t n d) = level_left (0 * 1 * down d) t (n * up d * 1) (none (down d))
+eq_left (fin t n d) = level_left (0 * 1 * down d) t (n * up d * 1) (zero-mul (down d))
 
 eq_right : (u : Float) → eq u (signed true) ≡ eq u (signed false)
 unfolding eq
 eq_right nan = refl
 eq_right (inf t) = refl
-eq_right (fin t n d) = level_right t (n * up d * 1) (0 * 1 * down d) (none (down d))
+eq_right (fin t n d) = level_right t (n * up d * 1) (0 * 1 * down d) (zero-mul (down d))
 
 module _ (x y : Float) (w : Alike x y) (u : Float) where
   pub lt_same : lt x u ≡ lt y u
@@ -153,7 +150,7 @@ unfolding lt sub add neg
 sub_right nan h = refl
 sub_right (inf t) h = refl
 sub_right (fin true n d) h = absurd h
-sub_right (fin false n d) h = sum_right (n * up d * 1) (0 * 1 * down d) (down d * 1) (none (down d))
+sub_right (fin false n d) h = sum_right (n * up d * 1) (0 * 1 * down d) (down d * 1) (zero-mul (down d))
 
 sub_left : (y : Float) → T (lt y (signed false)) → signed true ⊖ y ≡ signed false ⊖ y
 unfolding lt sub add neg
@@ -161,10 +158,10 @@ sub_left nan h = refl
 sub_left (inf t) h = refl
 sub_left (fin false n d) h =
     let l = ltb→lt (n * up d * 1) (0 * 1 * down d) h in
-    absurd (omega (arith, none (down d)))
+    absurd (omega (arith, zero-mul (down d)))
 sub_left (fin true n d) h =
     let l = ltb→lt 0 (n * up d * 1 + 0 * 1 * down d) h in
-    sum_left (0 * 1 * down d) (n * up d * 1) (1 * down d) (none (down d)) (omega (arith, none (down d)))
+    sum_left (0 * 1 * down d) (n * up d * 1) (1 * down d) (zero-mul (down d)) (omega (arith, zero-mul (down d)))
 
 -- two zeros are not one below the other
 level_zeros : (s t : Bool) → T (lt (signed s) (signed t)) → ⊥

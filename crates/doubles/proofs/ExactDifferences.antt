@@ -1,9 +1,9 @@
 -- Sterbenz: a difference x - y with y ≤ x ≤ 2 * y is exact, in any format. Both sizes are a number of no more digits than the format has, times a power of two. So is their difference, over the smaller of the two powers. Assumes nothing.
 use Rattle.std.proofs.Common.{◌≡◌, ℕ, suc, ◌+◌, ◌-◌, ◌*◌, ◌^◌, ◌<◌, ◌≤◌, Bool, true, false, not, T, leb, sym, refl, ap, ◌∙◌, le_trans, le_of_eq, lt_of_lt_of_le, lt_of_le_of_lt, le_of_lt, mul_assoc, mul_comm, sub-add_cancel, le_of_mul-le-mul_right, sub-le, arith, leb→le, pow_pos, pow-add}
-use native.Mathlib.Nat.{mul-sub}
 use lib.Dec.{nleb→lt}
 use lib.Ieee.{Float, nan, inf, fin, Format, prec, emax, low, up, down, round, sub, fits}
 use lib.Ieee.Exact.{round_exact}
+use Rattle.doubles.proofs.Fractions.{sub_mul}
 use Rattle.doubles.proofs.Magnitude.{mag, mag_of, mag_lt, plain, plain_finite, low_enough, small_enough, unit_pow}
 use Rattle.doubles.proofs.Differences.{sub_at}
 
@@ -28,16 +28,13 @@ digits f (fin false m e) h p =
     }
 
 -- ---- a difference that is up to the smaller of the two
-sub_times : (a b c : ℕ) → (a - b) * c ≡ a * c - b * c
-sub_times a b c = mul_comm (a - b) c ∙ mul-sub c a b ∙ ap (λ (z : ℕ). z - c * b) (mul_comm c a) ∙ ap (λ (z : ℕ). a * c - z) (mul_comm c b)
-
 shifted : (m j k : ℕ) → k ≤ j → m * 2 ^ j ≡ m * 2 ^ (j - k) * 2 ^ k
 shifted m j k h = ap (λ (z : ℕ). m * 2 ^ z) (sym (sub-add_cancel h)) ∙ ap (λ (z : ℕ). m * z) (pow-add 2 (j - k) k) ∙ sym (mul_assoc m (2 ^ (j - k)) (2 ^ k))
 
 -- over the smaller of the two powers
 over : (f : Format) (X Y a b m k : ℕ) → X ≡ a * 2 ^ k → Y ≡ b * 2 ^ k → X - Y ≤ m * 2 ^ k → m < 2 ^ prec f → Digits f (X - Y)
 over f X Y a b m k hx hy le fw =
-    let e : X - Y ≡ (a - b) * 2 ^ k = ap (λ (z : ℕ). z - Y) hx ∙ ap (λ (z : ℕ). a * 2 ^ k - z) hy ∙ sym (sub_times a b (2 ^ k)) in
+    let e : X - Y ≡ (a - b) * 2 ^ k = ap (λ (z : ℕ). z - Y) hx ∙ ap (λ (z : ℕ). a * 2 ^ k - z) hy ∙ sym (sub_mul a b (2 ^ k)) in
     let q : a - b ≤ m = le_of_mul-le-mul_right (le_trans (le_of_eq (sym e)) le) (pow_pos k) in
     record { m = a - b; j = k; few = lt_of_le_of_lt q fw; is = e }
 

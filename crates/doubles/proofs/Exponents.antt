@@ -1,17 +1,11 @@
 -- Exponents of two: the difference of two numbers as an integer, and that one power of two at most is the highest in a number. Assumes nothing.
-use Rattle.std.proofs.Common.{◌≡◌, ℕ, suc, ◌+◌, ◌-◌, ◌*◌, ◌^◌, ◌<◌, ◌≤◌, Bool, true, false, cond, not, T, ltb, leb, ◌⊎◌, ℤ, pos, negsuc, ◌+ℤ◌, sym, ap, ◌∙◌, subst, inl, inr, lt_of_lt_of_le, lt_of_le_of_lt, lt_irrefl, lt_of_not-le, arith, lit≤, le→leb, ltb→lt, lt→ltb, nltb→le, pow_mono, pow-add, w64, SFits}
+use Rattle.std.proofs.Common.{◌≡◌, ℕ, suc, ◌+◌, ◌-◌, ◌*◌, ◌^◌, ◌<◌, ◌≤◌, Bool, cond, T, ltb, leb, ◌⊎◌, ℤ, pos, negsuc, ◌+ℤ◌, sym, ap, ◌∙◌, subst, inl, inr, lt_of_lt_of_le, lt_of_le_of_lt, lt_irrefl, lt_of_not-le, arith, lit≤, le→leb, lt→ltb, pow_mono, pow-add, w64, SFits}
+use Rattle.std.proofs.lemmas.Bool.{cases_lt}
 use lib.IntN.{suc_ℤ, sub_ℕ, +ℤ_one}
 use lib.Signed.{mag}
 use lib.Arith.{lt→nleb, le→nltb}
 use lib.Ieee.{binary64, minus, in_float}
 use lib.Ieee.Bits.{is_true, cond_no}
-
-pub split : (a b : ℕ) → (a < b) ⊎ (b ≤ a)
-split a b = go (ltb a b) (ltb→lt a b) (nltb→le a b)
-  where
-    go : (t : Bool) → (T t → a < b) → (T (not t) → b ≤ a) → (a < b) ⊎ (b ≤ a)
-    go true h k = inl (h tt)
-    go false h k = inr (k tt)
 
 pub cond_yes : {X : Type 0} (b : Bool) (x y : X) → T b → cond b x y ≡ x
 cond_yes b x y h = rw (is_true b h)
@@ -24,14 +18,14 @@ pub minus_pos : (a b : ℕ) → b ≤ a → minus a b ≡ pos (a - b)
 minus_pos a b h = cond_yes (leb b a) (pos (a - b)) (negsuc (b - suc a)) (le→leb b a h)
 
 pub sub_is_minus : (a b : ℕ) → sub_ℕ a b ≡ minus a b
-sub_is_minus a b = go (split a b)
+sub_is_minus a b = go (cases_lt a b)
   where
     go : (a < b) ⊎ (b ≤ a) → sub_ℕ a b ≡ minus a b
     go (inl h) = cond_yes (ltb a b) (negsuc (b - suc a)) (pos (a - b)) (lt→ltb a b h) ∙ sym (minus_neg a b h)
     go (inr h) = cond_no (ltb a b) (negsuc (b - suc a)) (pos (a - b)) (le→nltb a b h) ∙ sym (minus_pos a b h)
 
 pub minus_same : (a b c d : ℕ) → a + d ≡ c + b → minus a b ≡ minus c d
-minus_same a b c d e = go (split a b)
+minus_same a b c d e = go (cases_lt a b)
   where
     go : (a < b) ⊎ (b ≤ a) → minus a b ≡ minus c d
     go (inl h) =
@@ -44,7 +38,7 @@ minus_same a b c d e = go (split a b)
         minus_pos a b h ∙ ap pos n ∙ sym (minus_pos c d k)
 
 pub minus_suc : (a b : ℕ) → minus a b +ℤ pos 1 ≡ minus (suc a) b
-minus_suc a b = +ℤ_one (minus a b) ∙ go (split a b) (split (suc a) b)
+minus_suc a b = +ℤ_one (minus a b) ∙ go (cases_lt a b) (cases_lt (suc a) b)
   where
     go : (a < b) ⊎ (b ≤ a) → (suc a < b) ⊎ (b ≤ suc a) → suc_ℤ (minus a b) ≡ minus (suc a) b
     go (inl h) (inl k) =
@@ -61,7 +55,7 @@ minus_suc a b = +ℤ_one (minus a b) ∙ go (split a b) (split (suc a) b)
 
 -- ---- a small integer fits an `i64`, and casts to a double
 pub minus_small : (a b n : ℕ) → a < n → b < n → mag (minus a b) < n
-minus_small a b n h k = go (split a b)
+minus_small a b n h k = go (cases_lt a b)
   where
     go : (a < b) ⊎ (b ≤ a) → mag (minus a b) < n
     go (inl l) = let m : b - suc a < n = omega arith in subst (λ (z : ℤ). mag z < n) (sym (minus_neg a b l)) m

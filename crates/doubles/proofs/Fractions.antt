@@ -35,7 +35,7 @@ ltb_scaled a b c a' b' c' C C' h k =
     same_test (ltb a b) (ltb a' b') (λ (t : T (ltb a b)). lt→ltb a' b' (lt_scaled a b c a' b' c' C' h k (ltb→lt a b t)))
     (λ (t : T (ltb a' b')). lt→ltb a b (lt_scaled a' b' c' a b c C (sym h) (sym k) (ltb→lt a' b' t)))
 
-sub_mul : (a b c : ℕ) → (a - b) * c ≡ a * c - b * c
+pub sub_mul : (a b c : ℕ) → (a - b) * c ≡ a * c - b * c
 sub_mul a b c = mul_comm (a - b) c ∙ mul-sub c a b ∙ ap (λ (z : ℕ). z - c * b) (mul_comm c a) ∙ ap (λ (z : ℕ). a * c - z) (mul_comm c b)
 
 less_scaled : (a b c a' b' c' : ℕ) → a * c' ≡ a' * c → b * c' ≡ b' * c → (a - b) * c' ≡ (a' - b') * c

@@ -3,7 +3,7 @@ use Rattle.std.proofs.Common.{◌≡◌, ℕ, zero, suc, ◌+◌, ◌-◌, ◌*�
 use lib.Signed as Sign
 use lib.Bits.{bit_and, and_mask, mask_lt}
 use lib.Count.{count_leading_zeros, leading_le, leading_top}
-use lib.Ieee.{Float, nan, inf, fin, Format, binary64, low, up, down, minus, size, neg, fits, is_nan, to_bits, top, eq, ne}
+use lib.Ieee.{Float, nan, inf, fin, Format, binary64, low, up, down, minus, size, neg, fits, is_nan, to_bits, top}
 use lib.Ieee.Fits.{down_pos, up_pos, neg-fits}
 use lib.Ieee.Digits.{size-lt, size_reaches}
 use lib.Ieee.Positive.{first_pos}
@@ -117,12 +117,6 @@ field_small x = go (plain_bits x) (mask_lt (to_bits binary64 x) 63)
   where
     go : (b : ℕ) → b < 2 ^ 63 → b / 2 ^ 52 < 2 ^ 11
     go b h = omega arith
-
-pub no_nan : (x : Float) → T (not (ne x x)) → T (not (is_nan x))
-unfolding ne eq is_nan
-no_nan nan n = n
-no_nan (inf s) n = tt
-no_nan (fin s m e) n = tt
 
 finite_field : (x : Float) → T (not (is_nan x)) → (plain_bits x / 2 ^ 52 ≡ 2047 → ⊥) → T (finite x)
 unfolding is_nan

@@ -1,6 +1,7 @@
 -- A sum with 1.5 * 2 ^ 52 is rounded to the nearest whole number, a half going to the even one; and what the proof of `floor_near` cites: the floor is that number or one less. Assumes nothing.
-use Rattle.std.proofs.Common.{◌≡◌, ℕ, zero, suc, ◌+◌, ◌-◌, ◌*◌, ◌/◌, ◌^◌, ◌<◌, ◌≤◌, Bool, true, false, not, ◌&&◌, ◌||◌, T, eqb, ltb, ℤ, pos, negsuc, neg_ℤ, nat_abs, sym, refl, ap, ◌∙◌, subst, inr, zero-le, le_trans, le_of_eq, lt_of_lt_of_le, le_of_suc-le-suc, lt_of_le_of_lt, add-zero, le_of_lt, mul-le-mul_right, zero-lt-suc, mul_assoc, mul_comm, div-lt_iff_lt-mul, add-mul, lt_of_mul-lt-mul_right, mul-lt-mul_of_pos_right, mul-pos, le-div_iff_mul-le, zero-mul, mul-one, mul_right_comm, div-mul-le_self, add-one, arith, lit<, eqb→eq, ltb→lt, lt→ltb, nltb→le, T_not, pow_pos, pow-add}
-use native.Mathlib.Nat.{div-eq_of_lt-le, mul-add-div_right, lt-div-mul-add}
+use Rattle.doubles.proofs.Order.{at_least}
+use Rattle.std.proofs.Common.{◌≡◌, ℕ, zero, suc, ◌+◌, ◌-◌, ◌*◌, ◌/◌, ◌^◌, ◌<◌, ◌≤◌, Bool, true, false, not, ◌&&◌, ◌||◌, T, eqb, ltb, ℤ, pos, negsuc, neg_ℤ, nat_abs, sym, refl, ap, ◌∙◌, subst, inr, zero-le, le_trans, le_of_eq, lt_of_lt_of_le, le_of_suc-le-suc, lt_of_le_of_lt, add-zero, mul-le-mul_right, zero-lt-suc, mul_assoc, mul_comm, div-lt_iff_lt-mul, add-mul, lt_of_mul-lt-mul_right, mul-lt-mul_of_pos_right, mul-pos, le-div_iff_mul-le, zero-mul, mul-one, mul_right_comm, div-mul-le_self, add-one, arith, lit<, ltb→lt, lt→ltb, nltb→le, T_not, pow_pos, pow-add}
+use native.Mathlib.Nat.{div-eq_of_lt-le, mul-add-div_right, lt-div-mul-add, div-le_of_le-mul}
 use lib.IntN.{suc_ℤ}
 use lib.Pow.{pow-lt}
 use lib.Ieee.{Float, nan, inf, fin, Format, binary32, binary64, prec, emax, low, up, down, units, round, sum, add, sub, neg, below, lt, le, eq, ne, of_int}
@@ -120,11 +121,7 @@ up_to a D B P h =
     omega arith
 
 pub down_to : (a D B : ℕ) → 0 < D → a ≤ B * D → a / D ≤ B
-down_to a D B P h =
-    let e : (B + 1) * D ≡ B * D + 1 * D = add-mul B 1 D in
-    let l : a < (B + 1) * D = omega arith in
-    let r : a / D < B + 1 = (div-lt_iff_lt-mul P).1 l in
-    omega arith
+down_to a D B P h = div-le_of_le-mul D (le_trans h (le_of_eq (mul_comm B D)))
 
 minus_int : (c : ℕ) → round binary64 (true && ltb 0 c) c 1 ≡ of_int binary64 (neg_ℤ (pos c))
 unfolding of_int
@@ -235,22 +232,6 @@ up_one h (negsuc (suc j)) k = omega arith
 -- ---- x from -2 ^ 51 up and below 2 ^ 51
 abbrev Near : Float → Type 0
 Near x = (s : Bool) × (m : ℕ) × (e : ℤ) × (N : ℕ) × (x ≡ fin s m e) × Moved s (m * up e) (down e) N × (2 ^ 52 * down e ≤ N) × (N < 2 ^ 53 * down e)
-
-pub lt_le : (x y : Float) → T (lt x y) → T (le x y)
-unfolding le
-lt_le x y t = go (lt x y) (eq x y) t
-  where
-    go : (a b : Bool) → T a → T (a || b)
-    go true b t = tt
-    go false b t = absurd t
-
-pub at_least : (a b : ℕ) → T (ltb b a || (eqb a b && true)) → b ≤ a
-at_least a b = go (ltb b a) (eqb a b) (ltb→lt b a) (eqb→eq a b)
-  where
-    go : (t u : Bool) → (T t → b < a) → (T u → a ≡ b) → T (t || (u && true)) → b ≤ a
-    go true u f g w = le_of_lt (f tt)
-    go false true f g w = le_of_eq (sym (g tt))
-    go false false f g w = absurd w
 
 near : (x : Float) → T (le (fin true 1 (pos 51)) x) → T (lt x (fin false 1 (pos 51))) → Near x
 unfolding le lt eq

@@ -1,20 +1,20 @@
 -- The order of values whose sign is clear is that of their sizes in units. A fraction up to such a value is rounded to no more than it, and one from it up to no less. Assumes nothing.
-use Rattle.std.proofs.Common.{◌≡◌, ℕ, ◌+◌, ◌*◌, ◌^◌, ◌<◌, ◌≤◌, Bool, true, false, ◌&&◌, ◌||◌, T, eqb, ltb, ◌⊎◌, sym, subst, inl, inr, true≢false, le_trans, le_of_eq, le-add_right, le_of_lt, mul-le-mul_right, mul_assoc, mul-pos, le_of_mul-le-mul_right, le-add_left, eqb→eq, ltb→lt, pow_pos}
+use Rattle.std.proofs.Common.{◌≡◌, ℕ, ◌+◌, ◌*◌, ◌^◌, ◌<◌, ◌≤◌, true, false, ◌&&◌, ◌||◌, T, eqb, ltb, sym, subst, inl, inr, true≢false, le_trans, le_of_eq, le-add_right, le_of_lt, mul-le-mul_right, mul_assoc, mul-pos, le_of_mul-le-mul_right, le-add_left, eqb→eq, ltb→lt, pow_pos}
 use lib.Ieee.{Float, nan, inf, fin, Format, low, up, down, round, add, le, fits}
 use lib.Ieee.Fits.{and_l, down_pos, round-fits}
 use lib.Ieee.Exact.{HasValue}
 use lib.Ieee.Order.{transfer, le_of_values, round_mono}
 use lib.Ieee.Scale.{grid, finite, round_val, round_under}
+use mir.Facts.{or_yes}
 use Rattle.doubles.proofs.Magnitude.{mag, mag_of, plain, plain_val, round_at, add_at}
 use Rattle.doubles.proofs.Signs.{clear, round_clear}
 
 -- ---- the order of two values, by their sizes
-or_split : (a b : Bool) → T (a || b) → T a ⊎ T b
-or_split true b t = inl tt
-or_split false b t = inr t
-
 pub lt_or_eq : (a b : ℕ) → T (ltb a b || (eqb a b && true)) → a ≤ b
-lt_or_eq a b t = elim (or_split (ltb a b) (eqb a b && true) t) [ inl u ↦ le_of_lt (ltb→lt a b u) | inr u ↦ le_of_eq (eqb→eq a b (and_l (eqb a b) true u)) ]
+lt_or_eq a b t = elim (or_yes (ltb a b) (eqb a b && true) t) [ inl u ↦ le_of_lt (ltb→lt a b u) | inr u ↦ le_of_eq (eqb→eq a b (and_l (eqb a b) true u)) ]
+
+pub at_least : (a b : ℕ) → T (ltb b a || (eqb a b && true)) → b ≤ a
+at_least a b t = elim (or_yes (ltb b a) (eqb a b && true) t) [ inl u ↦ le_of_lt (ltb→lt b a u) | inr u ↦ le_of_eq (sym (eqb→eq a b (and_l (eqb a b) true u))) ]
 
 le_fractions : (x y : Float) (a c b d : ℕ) → HasValue x false a c → HasValue y false b d → T (le x y) → a * d ≤ b * c
 unfolding le

@@ -1,5 +1,6 @@
 -- What the proof of `pow2` cites: the powers of two from their bit patterns. Assumes nothing.
 use Rattle.std.proofs.Common.{◌≡◌, ℕ, suc, ◌+◌, ◌-◌, ◌*◌, ◌/◌, ◌%◌, ◌^◌, ◌<◌, ◌≤◌, Bool, true, false, cond, not, T, eqb, ltb, leb, ℤ, pos, negsuc, ◌+ℤ◌, nat_abs, sym, refl, ap, ◌∙◌, subst, true≢false, le_of_eq, lt_of_lt_of_le, lt_of_le_of_lt, add-zero, mul-le-mul_right, mod-eq_of_lt, zero-lt-suc, mul-le-mul_left, one-mul, zero-mul, mul-one, mul_right_comm, arith, lit<, lit≤, eqb→eq, ltb→lt, leb→le, nltb→le, pow_pos, pow_mono, pow-add, w64, Fits, SFits, to_z, of_z}
+use Rattle.std.proofs.lemmas.Float.{T_from_true, T_from_false}
 use native.Mathlib.Nat.{eq_of_mul-eq-mul_right, div-eq_of_lt}
 use mathlib.Core.Bool.{false≢true}
 use lib.Signed.{lt_z, le_z, non_neg}
@@ -18,7 +19,7 @@ use mir.ValLaws.{to_z-of_z}
 use Rattle.doubles.specs.Power.{pow2_of}
 use Rattle.doubles.proofs.Magnitude.{round_at}
 use Rattle.doubles.proofs.Signs.{clear, round_clear}
-use Rattle.doubles.proofs.Floors.{yes, no, zero_is}
+use Rattle.doubles.proofs.Floors.{zero_is}
 
 pow2_of_is : (z : ℤ) → pow2_of binary64 z ≡ round binary64 false (up z) (down z)
 unfolding pow2_of
@@ -39,7 +40,7 @@ not_top i h = not_T (eqb (suc i) 2047) (λ (t : T (eqb (suc i) 2047)). clash i h
     clash : (i : ℕ) → i < 2046 → suc i ≡ 2047 → ⊥
     clash i h e = omega arith
 
-normal_fields : (i t : ℕ) → i < 2046 → HasValue (of_fields binary64 false (suc i) t) false ((2 ^ 52 + t) * 2 ^ i) (2 ^ 1074)
+pub normal_fields : (i t : ℕ) → i < 2046 → HasValue (of_fields binary64 false (suc i) t) false ((2 ^ 52 + t) * 2 ^ i) (2 ^ 1074)
 unfolding of_fields
 normal_fields i t h =
     subst (λ (z : Float). HasValue z false ((2 ^ 52 + t) * 2 ^ i) (2 ^ 1074)) (sym (cond_no (eqb (suc i) 2047) (cond (eqb t 0) (inf false) nan) (odd 53 false (2 ^ 52 + t) i 1074) (not_top i h))) (odd_sign 53 false (2 ^ 52 + t) i 1074)
@@ -165,8 +166,8 @@ pub middle : (n : ℤ) → SFits w64 n → lt_z (pos 1023) (back n) ≡ false �
 middle n F a b = at n F (subst (λ (z : ℤ). lt_z (pos 1023) z ≡ false) (to_z-of_z w64 n F) a) (subst (λ (z : ℤ). le_z (negsuc 1021) z ≡ true) (to_z-of_z w64 n F) b)
   where
     at : (n : ℤ) → SFits w64 n → lt_z (pos 1023) n ≡ false → le_z (negsuc 1021) n ≡ true → Middle n
-    at (pos k) F a b = middle_pos k F (nltb→le 1023 k (no a))
-    at (negsuc k) F a b = middle_neg k F (leb→le k 1021 (yes b))
+    at (pos k) F a b = middle_pos k F (nltb→le 1023 k (T_from_false _ a))
+    at (negsuc k) F a b = middle_neg k F (leb→le k 1021 (T_from_true _ b))
 
 abbrev pub Low : ℤ → Type 0
 Low n = (i : ℕ) × (i < 52) × Lifted n 1074 i × (up n * 2 ^ 1074 ≡ 2 ^ i * 2 ^ 0 * down n)
@@ -194,7 +195,7 @@ low n F a b = at n F (subst (λ (z : ℤ). le_z (negsuc 1021) z ≡ false) (to_z
   where
     at : (n : ℤ) → SFits w64 n → le_z (negsuc 1021) n ≡ false → le_z (negsuc 1073) n ≡ true → Low n
     at (pos k) F a b = absurd (true≢false a)
-    at (negsuc k) F a b = low_neg k F (nleb→lt k 1021 (no a)) (leb→le k 1073 (yes b))
+    at (negsuc k) F a b = low_neg k F (nleb→lt k 1021 (T_from_false _ a)) (leb→le k 1073 (T_from_true _ b))
 
 -- ---- what the function returns, from the field or the digit that it shifts into place
 no_wrap : (b : ℕ) → b < 2 ^ 63 → b % 2 ^ 64 ≡ b
@@ -238,7 +239,7 @@ pub top : (n : ℤ) → SFits w64 n → lt_z (pos 1023) (back n) ≡ true → in
 top n F a = at n (subst (λ (z : ℤ). lt_z (pos 1023) z ≡ true) (to_z-of_z w64 n F) a)
   where
     at : (n : ℤ) → lt_z (pos 1023) n ≡ true → inf false ≡ pow2_of binary64 n
-    at (pos k) a = sym (too_high k (ltb→lt 1023 k (yes a)))
+    at (pos k) a = sym (too_high k (ltb→lt 1023 k (T_from_true _ a)))
     at (negsuc k) a = absurd (false≢true a)
 
 -- 2 ^ -1075 is halfway to the least value, and goes to 0, which is even
@@ -271,4 +272,4 @@ bottom n F a = at n (subst (λ (z : ℤ). le_z (negsuc 1073) z ≡ false) (to_z-
   where
     at : (n : ℤ) → le_z (negsuc 1073) n ≡ false → fin false 0 (pos 0) ≡ pow2_of binary64 n
     at (pos k) a = absurd (true≢false a)
-    at (negsuc k) a = sym (too_low k (nleb→lt k 1073 (no a)))
+    at (negsuc k) a = sym (too_low k (nleb→lt k 1073 (T_from_false _ a)))

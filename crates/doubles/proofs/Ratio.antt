@@ -1,15 +1,15 @@
 -- (u - a) / (b - a), each operation rounded, for finite a below u and b not below u: it has no sign and is at most 1. Assumes nothing.
-use Rattle.std.proofs.Common.{◌≡◌, ℕ, zero, suc, ◌+◌, ◌-◌, ◌*◌, ◌^◌, ◌<◌, ◌≤◌, Bool, true, false, not, ◌&&◌, ◌||◌, T, eqb, ltb, ◌⊎◌, ℤ, pos, sym, refl, ap, ◌∙◌, subst, ap₂, inl, inr, true≢false, le_trans, le_of_eq, le_of_lt, mul-le-mul_right, mul_assoc, add-mul, lt_of_mul-lt-mul_right, mul-lt-mul_of_pos_right, mul-pos, one-mul, zero-mul, mul-one, arith, eqb→eq, ltb→lt, lt→ltb, pow_pos, ltb-false, ltb-true, lt-ltb}
+use Rattle.std.proofs.Common.{◌≡◌, ℕ, zero, suc, ◌+◌, ◌-◌, ◌*◌, ◌^◌, ◌<◌, ◌≤◌, Bool, true, false, not, T, ltb, ℤ, pos, sym, refl, ap, ◌∙◌, subst, ap₂, true≢false, le_trans, le_of_eq, le_of_lt, mul-le-mul_right, mul_assoc, add-mul, lt_of_mul-lt-mul_right, mul-lt-mul_of_pos_right, mul-pos, one-mul, zero-mul, mul-one, arith, ltb→lt, lt→ltb, pow_pos, ltb-false, ltb-true, lt-ltb}
 use lib.Pow.{pow-lt}
 use lib.Ieee.{Float, nan, inf, fin, Format, binary32, binary64, prec, emax, low, up, down, round, sum, sub, neg, div, below, lt, le, fits}
-use lib.Ieee.Fits.{and_l, down_pos, round-fits}
+use lib.Ieee.Fits.{down_pos, round-fits}
 use lib.Ieee.Exact.{HasValue, round_exact}
 use lib.Ieee.Order.{le_of_values, round_mono}
 use lib.Ieee.Scale.{finite}
 use Rattle.doubles.specs.Arithmetic.{one64, minus_one64}
 use Rattle.doubles.proofs.Magnitude.{mag, mag_of, mag_val, sign, plain, plain_finite, plain_val, round_at, div_at}
 use Rattle.doubles.proofs.Signs.{round_clear}
-use Rattle.doubles.proofs.Order.{mag_mono, plain_under, clear_finite}
+use Rattle.doubles.proofs.Order.{mag_mono, plain_under, clear_finite, at_least}
 use Rattle.doubles.proofs.Fractions.{same_test, add_of, lt_of, sum_scaled, sum_plain, sum_turned}
 use Rattle.doubles.proofs.Interpolation.{one_fits, to_one}
 use Rattle.doubles.proofs.Differences.{UpTo}
@@ -114,7 +114,7 @@ below_units false true a b l L = refl
 below_units true false a b l L = ap₂ ltb (sym (zero-mul l)) (sym (add-mul a b l)) ∙ scaled 0 (a + b) l L
 below_units true true a b l L = scaled b a l L
 
-neg_value : (x : Float) (s : Bool) (a c : ℕ) → HasValue x s a c → HasValue (neg x) (not s) a c
+pub neg_value : (x : Float) (s : Bool) (a c : ℕ) → HasValue x s a c → HasValue (neg x) (not s) a c
 unfolding neg
 neg_value nan s a c v = v
 neg_value (inf t) s a c v = v
@@ -166,13 +166,6 @@ module _
         rw (x, y) (quotient_up_to f d e l L (gap_order (sign u) (sign a) (sign b) (mag f u) (mag f a) (mag f b) lo hi) some (rw y at room))
 
 -- ---- differences of values from -1 to 1 are finite
-or_split : (p q : Bool) → T (p || q) → T p ⊎ T q
-or_split true q t = inl tt
-or_split false q t = inr t
-
-turned : (a b : ℕ) → T (ltb a b || (eqb b a && true)) → a ≤ b
-turned a b t = elim (or_split (ltb a b) (eqb b a && true) t) [ inl u ↦ le_of_lt (ltb→lt a b u) | inr u ↦ le_of_eq (sym (eqb→eq b a (and_l (eqb b a) true u))) ]
-
 unsigned : (f : Format) (m : ℕ) (e : ℤ) → T (fits f (fin true m e)) → T (fits f (fin false m e))
 unfolding fits
 unsigned f zero e h = h
@@ -185,7 +178,7 @@ room_mag f (inf true) h lo hi = absurd lo
 room_mag f (inf false) h lo hi = absurd hi
 room_mag f (fin false m e) h lo hi = to_one f (fin false m e) h tt hi
 room_mag f (fin true m e) h lo hi =
-    to_one f (fin false m e) (unsigned f m e h) tt (le_of_values (fin false m e) one64 (m * up e) (down e) 1 1 (down_pos e) (omega arith) (refl, refl) (refl, refl) (turned (m * up e * 1) (1 * down e) lo))
+    to_one f (fin false m e) (unsigned f m e h) tt (le_of_values (fin false m e) one64 (m * up e) (down e) 1 1 (down_pos e) (omega arith) (refl, refl) (refl, refl) (at_least (1 * down e) (m * up e * 1) lo))
 
 gap_most : (s t : Bool) (p q l : ℕ) → p ≤ l → q ≤ l → gap s p t q ≤ 2 * l
 gap_most false false p q l h k = omega arith

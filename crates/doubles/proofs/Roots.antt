@@ -1,10 +1,10 @@
 -- `isqrt n` is √n rounded down, and `sqrt_of` is √x rounded to the nearest. Assumes nothing.
-use Rattle.std.proofs.Common.{◌≡◌, ℕ, zero, suc, ◌+◌, ◌-◌, ◌*◌, ◌/◌, ◌^◌, ◌<◌, ◌≤◌, Bool, true, false, cond, not, T, eqb, leb, ◌⊎◌, sym, refl, ap, ◌∙◌, inl, inr, zero-le, le_trans, le_of_eq, lt_of_lt_of_le, le_of_suc-le-suc, lt_of_le_of_lt, le_of_lt, lt_irrefl, mul-le-mul_right, zero-lt-suc, mul_assoc, suc-mul, mul_comm, div-lt_iff_lt-mul, add-mul, mul-le-mul, eq-or-lt_of_le, mul-le-mul_left, mul-lt-mul_of_pos_right, mul-pos, pow-suc, lt_of_not-le, mul-suc, mul_right_comm, div-mul-le_self, mul_left_comm, add-one, arith, lit≤, eqb→eq, leb→le, pow_pos}
-use native.Mathlib.Nat.{mul-lt-mul_of_pos_left, mul-mul-mul_comm, pow-succ', pow-le-pow_left}
-use lib.Dec.{nleb→lt}
+use Rattle.std.proofs.Common.{◌≡◌, ℕ, zero, suc, ◌+◌, ◌-◌, ◌*◌, ◌/◌, ◌^◌, ◌<◌, ◌≤◌, Bool, true, false, cond, T, eqb, leb, ◌⊎◌, sym, refl, subst, ap, ◌∙◌, inl, inr, le_of_eq, lt_of_lt_of_le, le_of_suc-le-suc, lt_of_le_of_lt, le_of_lt, lt_irrefl, mul-le-mul_right, zero-lt-suc, mul_assoc, suc-mul, mul_comm, add-mul, mul-le-mul, eq-or-lt_of_le, mul-le-mul_left, mul-lt-mul_of_pos_right, mul-pos, lt_of_not-le, mul-suc, mul_right_comm, mul_left_comm, add-one, arith, eqb→eq, pow_pos}
+use native.Mathlib.Nat.{mul-lt-mul_of_pos_left, pow-succ'}
+use lib.Ieee as Ieee
 use lib.Ieee.{Format, prec, low, size, round, units}
-use lib.Ieee.Digits.{size-lt}
 use lib.Ieee.Fits.{two, two-le_pos}
+use lib.Ieee.Root.{whole_part}
 use Rattle.doubles.proofs.Rounding.{round_near}
 use Rattle.doubles.specs.Root.{root_below, isqrt, round_root}
 
@@ -12,34 +12,15 @@ use Rattle.doubles.specs.Root.{root_below, isqrt, round_root}
 abbrev pub IsRoot : ℕ → ℕ → Type 0
 IsRoot n q = (q * q ≤ n) × (n < suc q * suc q)
 
--- ---- one digit more
-twice_sq : (q : ℕ) → q * 2 * (q * 2) ≡ q * q * 4
-twice_sq q = mul-mul-mul_comm q 2 q 2
-
-step_low : (q n : ℕ) → q * q ≤ n / 4 → q * 2 * (q * 2) ≤ n
-step_low q n h = le_trans (le_of_eq (twice_sq q)) (le_trans (mul-le-mul_right 4 h) (div-mul-le_self n 4))
-
-step_high : (q n : ℕ) → n / 4 < suc q * suc q → n < suc (suc (q * 2)) * suc (suc (q * 2))
-step_high q n h = lt_of_lt_of_le ((div-lt_iff_lt-mul (zero-lt-suc 3)).0 h) (le_of_eq (sym (twice_sq (suc q)) ∙ ap (λ (z : ℕ). z * z) (two_more q)))
-  where
-    two_more : (q : ℕ) → suc q * 2 ≡ suc (suc (q * 2))
-    two_more q = omega arith
-
-digit : (q n : ℕ) → IsRoot (n / 4) q → IsRoot n (cond (leb ((q * 2 + 1) * (q * 2 + 1)) n) (q * 2 + 1) (q * 2))
-digit q n h = rw (add-one (q * 2)) (go (leb (suc (q * 2) * suc (q * 2)) n) (leb→le (suc (q * 2) * suc (q * 2)) n) (nleb→lt (suc (q * 2) * suc (q * 2)) n))
-  where
-    go : (b : Bool) → (T b → suc (q * 2) * suc (q * 2) ≤ n) → (T (not b) → n < suc (q * 2) * suc (q * 2)) → IsRoot n (cond b (suc (q * 2)) (q * 2))
-    go true a c = (a tt, step_high q n h.1)
-    go false a c = (step_low q n h.0, c tt)
-
-root_below_is : (k n : ℕ) → n < 4 ^ k → IsRoot n (root_below k n)
-unfolding root_below
-root_below_is zero n h = (zero-le, h)
-root_below_is (suc k) n h = digit (root_below k (n / 4)) n (root_below_is k (n / 4) ((div-lt_iff_lt-mul (zero-lt-suc 3)).1 (lt_of_lt_of_le h (le_of_eq (pow-suc 4 k)))))
+-- ---- std's root is ours, and it is √n rounded down
+pub root_below_same : (k n : ℕ) → Ieee.root_below k n ≡ root_below k n
+unfolding Ieee.root_below root_below
+root_below_same zero n = refl
+root_below_same (suc k) n = ap (λ (q : ℕ). cond (leb ((q + 1) * (q + 1)) n) (q + 1) q) (mul_comm 2 (Ieee.root_below k (n / 4)) ∙ ap (λ (q : ℕ). q * 2) (root_below_same k (n / 4)))
 
 pub isqrt_is : (n : ℕ) → IsRoot n (isqrt n)
 unfolding isqrt
-isqrt_is n = root_below_is (size n) n (lt_of_lt_of_le (size-lt n) (pow-le-pow_left (lit≤ tt) (size n)))
+isqrt_is n = subst (λ (q : ℕ). IsRoot n q) (root_below_same (size n) n) ((whole_part n).0, rw (sym (add-one (Ieee.root_below (size n) n))) (whole_part n).1)
 
 -- ---- squares and the order
 sq_lt : (a b : ℕ) → a < b → a * a < b * b

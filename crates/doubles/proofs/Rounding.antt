@@ -1,7 +1,7 @@
 -- How far `round` can be from its fraction: half a unit of the last digit that it keeps. And what a fraction that lies within half a unit of a number is rounded to. Assumes nothing.
 use Rattle.std.proofs.Common.{◌≡◌, ℕ, zero, suc, ◌+◌, ◌-◌, ◌*◌, ◌/◌, ◌%◌, ◌^◌, ◌<◌, ◌≤◌, Bool, not, T, eqb, ◌⊎◌, sym, ap, ◌∙◌, subst, inl, inr, le_trans, le_of_eq, lt_of_lt_of_le, le_of_suc-le-suc, lt_irrefl, mul-le-mul_right, mod-lt, mul_assoc, suc-mul, mul_comm, div-lt_iff_lt-mul, add-mul, eq-zero-or-pos, le_antisymm, mul-pos, lt_of_not-le, div-add-mod', le-div_iff_mul-le, arith, eqb→eq, leb→le, pow_pos, pow_mono, pow-add}
 use Prim.Native.Nat.{compare, Ordering}
-use native.Mathlib.Nat.{mul-add-div_right, div-div-eq-div-mul}
+use native.Mathlib.Nat.{mul-add-div_right, div-div-eq-div-mul, mul-add-mod_self_right}
 use lib.Dec.{is_le, compare_is_eq, nleb→lt, eqb_refl}
 use lib.Arith.{lt_of_le-ne}
 use lib.Ieee.{Format, prec, low, size, nearest, units, round}
@@ -64,18 +64,10 @@ nearest_moved w q Ordering.lt h = omega arith
 nearest_moved w q Ordering.eq h = omega arith
 nearest_moved w q Ordering.gt h = omega arith
 
-rest_moved : (w n u : ℕ) → 0 < u → (w * u + n) % u ≡ n % u
-rest_moved w n u U =
-    let d = mul-add-div_right U w n in
-    let e : (w + n / u) * u + (w * u + n) % u ≡ w * u + n = ap (λ (q : ℕ). q * u + (w * u + n) % u) (sym d) ∙ div-add-mod' (w * u + n) u in
-    let f = div-add-mod' n u in
-    let g = add-mul w (n / u) u in
-    omega arith
-
 pub closest_moved : (w n u : ℕ) → 0 < u → w % 2 ≡ 0 → closest (w * u + n) u ≡ w + closest n u
 closest_moved w n u U h =
     ap (λ (q : ℕ). nearest q (compare ((w * u + n) % u * 2) u)) (mul-add-div_right U w n)
-    ∙ ap (λ (r : ℕ). nearest (w + n / u) (compare (r * 2) u)) (rest_moved w n u U)
+    ∙ ap (λ (r : ℕ). nearest (w + n / u) (compare (r * 2) u)) (mul-add-mod_self_right w u n)
     ∙ nearest_moved w (n / u) (compare (n % u * 2) u) h
 
 -- ---- `round`: of n / den in units of the smallest value, `drop` digits are dropped

@@ -1,3 +1,1 @@
-pub mod DigitLoop
 pub mod Nearest
-pub mod Tested

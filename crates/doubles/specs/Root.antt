@@ -49,19 +49,3 @@ pub record NearRoot (v : ℕ) (r : Float) : Type 0 where
   pub hi : 4 * v < 2 ^ 54 * 2 ^ k * (2 ^ 54 * 2 ^ k)
   pub under : (2 * g - 1) * 2 ^ k * ((2 * g - 1) * 2 ^ k) < 4 * v
   pub over : 4 * v < (2 * g + 1) * 2 ^ k * ((2 * g + 1) * 2 ^ k)
-
--- ---- what the parts of `sqrt` promise
-
--- q is √n rounded down
-abbrev pub IsRoot : ℕ → ℕ → Type 0
-IsRoot n q = (q * q ≤ n) × (n < suc q * suc q)
-
--- g is √n rounded to the nearest: g - 1/2 < √n < g + 1/2, squared, without the quarter, since n is whole
-abbrev pub IsNearestRoot : ℕ → ℕ → Type 0
-IsNearestRoot n g = (g * g < n + g) × (n ≤ g * g + g)
-
--- q', r' are the root and the rest of 4 n + d, where q, r are those of n
-pub record Steps (q r d q' r' : ℕ) : Type 0 where
-  pub sum : q' * q' + r' ≡ (q * q + r) * 4 + d
-  pub rest : r' ≤ 2 * q'
-  pub most : q' ≤ 2 * q + 1

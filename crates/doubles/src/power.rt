@@ -27,7 +27,7 @@ pub fn pow2_i32(n: i32) -> f64
 }
 
 // The n with 2 ^ n <= |x| < 2 ^ (n + 1), subnormals included. 0 where there is none: for zeros,
-// infinities and NaN.
+// infinities and NaN. No Option: a public function that could not fail still can't.
 pub fn floor_log2(x: f64) -> i64
     ensures { result ≡ floor_log2 x }
 {

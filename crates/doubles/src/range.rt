@@ -18,6 +18,7 @@ pub fn is_between(low: f64, high: f64, x: f64) -> bool
 }
 
 // x, or low where x is below it, or high where x is above that. NaN stays NaN, and -0 is not below 0.
+// By hand: std's `clamp` asks that low is not above high, and this asks nothing.
 pub fn clamp(x: f64, low: f64, high: f64) -> f64
     ensures { result ≡ clamp_to low high x }
 {

@@ -9,14 +9,13 @@ use lib.Seq.{take-suc, take-suc-set, take_all}
 
 -- the first i entries are written
 pub record Filled {A : Type 0} (n : ℕ) (l out : List A) (i : ℕ) : Type 0 where
-  pub reached : i ≤ n
   pub asked : length l ≡ n
   pub room : length out ≡ n
   pub same : take i out ≡ take i l
 
 module _ {A : Type 0} (n : ℕ) (l out : List A) where
   pub fill_none : length l ≡ n → length out ≡ n → Filled n l out 0
-  fill_none p q = record { reached = omega arith; asked = p; room = q; same = refl }
+  fill_none p q = record { asked = p; room = q; same = refl }
 
   -- a turn writes one more
   pub fill_more : (i : ℕ) (d a : A) → Filled n l out i → i < n → a ≡ get_or l i d → Filled n l (set out i a) (i + 1)
@@ -24,7 +23,6 @@ module _ {A : Type 0} (n : ℕ) (l out : List A) where
       let j : i < length out = omega arith in
       let k : i < length l = omega arith in
       record {
-        reached = omega arith;
         asked = w.asked;
         room = length-set out i a ∙ w.room;
         same = rw (add-one, take-suc-set out i a j, take-suc l i d k, w.same, q);

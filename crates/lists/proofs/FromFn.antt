@@ -20,9 +20,3 @@ module _ {F B : Type 0} (g : Mut F (ℕ × Unit {0}) B) (f : F) (h : ℕ → B) 
 
   pub from_fn_at : (n : ℕ) → IsFromFnResult g f ys n → (k : ℕ) → k < n → get_or ys k d ≡ h k
   from_fn_at n r k l = rw zero-add at (from n 0 r.each k l)
-
--- made from each entry of a list of that length
-pub from_fn_map : {F A B : Type 0} (g : Mut F (ℕ × Unit {0}) B) (f : F) (h : A → B) (xs : List A) (d : A) → ((i : ℕ) (y : B) (q : F) → Called g f (i, tt) y q → (q ≡ f) × (y ≡ h (get_or xs i d))) → (ys : List B) (n : ℕ) → IsFromFnResult g f ys n → length xs ≡ n → ys ≡ map h xs
-from_fn_map g f h xs d calls ys n r e =
-    ext_get_or (h d) ys (map h xs) (omega (arith, r.long, length-map xs h))
-    (λ k l. from_fn_at g f (λ (i : ℕ). h (get_or xs i d)) calls ys (h d) n r k (omega (arith, r.long)) ∙ sym (get_or-map h xs k d))

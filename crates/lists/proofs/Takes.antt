@@ -1,7 +1,7 @@
 -- Counts that a list's length bounds, and functions on a list's first entries.
 use Prim.Native.Nat.{ℕ, zero, suc, ◌≤◌, min}
-use mathlib.Core.Path.{◌≡◌, refl, ap}
-use mathlib.Core.List.{List, [], ◌∷◌, map}
+use mathlib.Core.Path.{◌≡◌, ap}
+use mathlib.Core.List.{List, [], ◌∷◌}
 use native.Mathlib.Omega.{arith}
 use native.Mathlib.Numerals.{unary_clauses}
 use lib.ListN.{length, take}
@@ -13,8 +13,3 @@ take_min zero m l h = simp unary_clauses
 take_min (suc n) m [] h = take-nil (min (suc n) m)
 take_min (suc n) zero (x ∷ xs) h = absurd (omega arith)
 take_min {A} (suc n) (suc m) (x ∷ xs) h = simp unary_clauses (ap (λ (l : List A). x ∷ l) (take_min n m xs (omega arith)))
-
-pub map_take : {A B : Type 0} (f : A → B) (n : ℕ) (l : List A) → map f (take n l) ≡ take n (map f l)
-map_take f zero l = refl
-map_take f (suc n) [] = refl
-map_take {B = B} f (suc n) (x ∷ xs) = ap (λ (l : List B). f x ∷ l) (map_take f n xs)

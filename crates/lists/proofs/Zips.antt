@@ -6,10 +6,6 @@ use native.Mathlib.Omega.{arith}
 use lib.ListN.{length, take, get_or}
 use Rattle.lists.specs.Lists.{zip_with}
 
-pub map-map : {A B C : Type 0} (f : A → B) (g : B → C) (l : List A) → map (λ (x : A). g (f x)) l ≡ map g (map f l)
-map-map f g [] = refl
-map-map {C = C} f g (x ∷ l) = ap (λ (t : List C). g (f x) ∷ t) (map-map f g l)
-
 module _ {A B C : Type 0} (g : A → B → C) where
   pub zip_length : (xs : List A) (ys : List B) → length xs ≡ length ys → length (zip_with g xs ys) ≡ length xs
   zip_length [] ys e = refl

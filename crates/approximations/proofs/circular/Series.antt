@@ -1,36 +1,51 @@
 -- What the proofs of `sine` and `cosine` cite: the series from one entry of the list on, and that the entries are doubles. Assumes nothing.
-use Rattle.std.proofs.Common.{◌≡◌, ℕ, zero, suc, ◌-◌, ◌^◌, ◌<◌, ◌≤◌, Bool, true, false, cond, T, leb, List, [], ◌∷◌, length, get_or, drop, refl, ap, ◌∙◌, zero-le, arith, leb→le}
+use Rattle.std.proofs.Common.{◌≡◌, ℕ, zero, suc, ◌-◌, ◌^◌, ◌<◌, ◌≤◌, Bool, true, false, cond, T, leb, List, [], ◌∷◌, length, get_or, take, ◌++◌, refl, sym, ap, ◌∙◌, append_assoc, zero-le, arith, leb→le}
+use lib.Seq.{take-suc}
+use Rattle.std.proofs.lemmas.List.{take_all}
 use lib.Ieee.{Float, binary64, le, round, div, of_int, of_bits}
 use lib.Ieee.Fits.{and_l, and_r}
 use Rattle.doubles.specs.Arithmetic.{◌⊖◌, ◌⊗◌}
 use Rattle.approximations.specs.Circular.{inverse, series, exact, H, half_h, complement_of}
-
--- ---- the series of the last entry, and from the entry before the i-th on
-pub series_last : (y : Float) (ks : List ℕ) (i : ℕ) → suc i ≡ length ks → inverse (get_or ks i 0) ≡ series y (drop i ks)
-unfolding series
-series_last y [] i h = absurd (omega arith)
-series_last y (k ∷ []) zero h = refl
-series_last y (k ∷ j ∷ ks) zero h = absurd (omega arith)
-series_last y (k ∷ ks) (suc i) h = series_last y ks i (omega arith)
-
-series_before : (y : Float) (ks : List ℕ) (i : ℕ) → suc i < length ks → inverse (get_or ks i 0) ⊖ y ⊗ series y (drop (suc i) ks) ≡ series y (drop i ks)
-unfolding series
-series_before y [] i h = absurd (omega arith)
-series_before y (k ∷ []) zero h = absurd (omega arith)
-series_before y (k ∷ j ∷ ks) zero h = refl
-series_before y (k ∷ ks) (suc i) h = series_before y ks i (omega arith)
-
--- a step of the loop
-pub series_step : (y : Float) (ks : List ℕ) (i : ℕ) (r : Float) → 0 < i → i < length ks → r ≡ series y (drop i ks) → inverse (get_or ks (i - 1) 0) ⊖ y ⊗ r ≡ series y (drop (i - 1) ks)
-series_step y ks i r p h e =
-    let back : i ≡ suc (i - 1) = omega arith in
-    ap (λ (z : Float). inverse (get_or ks (i - 1) 0) ⊖ y ⊗ z) (e ∙ ap (λ (j : ℕ). series y (drop j ks)) back) ∙ series_before y ks (i - 1) (omega arith)
 
 -- ---- an entry of a list whose entries are doubles
 pub entry_exact : (ks : List ℕ) → T (exact ks) → (i : ℕ) → get_or ks i 0 ≤ 2 ^ 53
 entry_exact [] t i = zero-le
 entry_exact (k ∷ ks) t zero = leb→le k (2 ^ 53) (and_l (leb k (2 ^ 53)) (exact ks) t)
 entry_exact (k ∷ ks) t (suc i) = entry_exact ks (and_r (leb k (2 ^ 53)) (exact ks) t) i
+
+entry_within : (xs : List ℕ) (f : ℕ) (ys : List ℕ) → T (exact (xs ++ (f ∷ ys))) → f ≤ 2 ^ 53
+entry_within [] f ys t = leb→le f (2 ^ 53) (and_l (leb f (2 ^ 53)) (exact ys) t)
+entry_within (x ∷ xs) f ys t = entry_within xs f ys (and_r (leb x (2 ^ 53)) (exact (xs ++ (f ∷ ys))) t)
+
+-- r is the series of the entries behind rest, which is where the list begins
+pub record Behind (y : Float) (ks rest : List ℕ) (r : Float) : Type 0 where
+  pub k : ℕ
+  pub later : List ℕ
+  pub all : rest ++ (k ∷ later) ≡ ks
+  pub so_far : r ≡ series y (k ∷ later)
+
+pub series_last : (y : Float) (ks rest : List ℕ) → 0 < length ks → rest ≡ take (length ks - 1) ks → Behind y ks rest (inverse (get_or ks (length ks - 1) 0))
+unfolding series
+series_last y ks rest h e =
+    let n = length ks - 1 in
+    let s : suc n ≡ length ks = omega arith in
+    record { k = get_or ks n 0; later = []; all = ap (λ (xs : List ℕ). xs ++ (get_or ks n 0 ∷ [])) e ∙ sym (take-suc ks n 0 (omega arith)) ∙ take_all (suc n) ks (omega arith); so_far = refl }
+
+-- ---- a step of the loop, where f is the last of rest
+module _ (y : Float) (ks rest front : List ℕ) (f : ℕ) (r : Float) (b : Behind y ks rest r) (e : rest ≡ front ++ (f ∷ [])) where
+  back : front ++ (f ∷ (b.k ∷ b.later)) ≡ ks
+  back = sym (append_assoc front (f ∷ []) (b.k ∷ b.later)) ∙ ap (λ (xs : List ℕ). xs ++ (b.k ∷ b.later)) (sym e) ∙ b.all
+
+  pub series_step : Behind y ks front (inverse f ⊖ y ⊗ r)
+  unfolding series
+  series_step = record { k = f; later = b.k ∷ b.later; all = back; so_far = ap (λ (z : Float). inverse f ⊖ y ⊗ z) b.so_far }
+
+  pub step_exact : T (exact ks) → f ≤ 2 ^ 53
+  step_exact t = entry_within front f (b.k ∷ b.later) (rw (← back) at t)
+
+pub series_all : (y : Float) (ks rest : List ℕ) (r : Float) → Behind y ks rest r → length rest ≡ 0 → r ≡ series y ks
+series_all y ks [] r b h = b.so_far ∙ ap (series y) b.all
+series_all y ks (x ∷ rest) r b h = absurd (omega arith)
 
 -- ---- the code's constants
 pub H_is : of_bits binary64 0x3ff921fb54442d18 ≡ H

@@ -18,7 +18,8 @@ use Rattle.doubles.proofs.Floors.{zero_f, zero_is}
 use Rattle.doubles.proofs.NearestWhole.{int_value, floor_int, floor_int_lem, up_to}
 use Rattle.approximations.specs.Exp2.{polynomial_of, finite_or_zero, exp2_of}
 use Rattle.approximations.proofs.exp2.Exponent.{whole_back}
-use Rattle.approximations.proofs.exp2.Sign.{neg_value, up_from}
+use Rattle.doubles.proofs.Ratio.{neg_value}
+use Rattle.approximations.proofs.exp2.Sign.{up_from}
 use Rattle.approximations.proofs.exp2.Ranges.{Bound, bound, room, exponent_bounds, product_is}
 
 -- ---- the fraction v - n

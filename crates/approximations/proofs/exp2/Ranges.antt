@@ -1,5 +1,7 @@
 -- What the proofs of `exp2_near` and `exp2_rest` cite: which numbers the floors of their values are, and that the code's products are the definition's. Assumes nothing.
+use Rattle.doubles.proofs.Order.{at_least}
 use Rattle.std.proofs.Common.{◌≡◌, ℕ, zero, suc, ◌+◌, ◌-◌, ◌*◌, ◌/◌, ◌^◌, ◌<◌, ◌≤◌, min, Bool, true, false, cond, not, ◌||◌, T, ltb, ℤ, pos, negsuc, neg_ℤ, nat_abs, sym, refl, ap, ◌∙◌, subst, true≢false, le_of_suc-le-suc, zero-lt-suc, div-lt_iff_lt-mul, zero-mul, arith, lit≤, le→leb, ltb→lt, lt→ltb, leb→le, nltb→le}
+use Rattle.std.proofs.lemmas.Float.{le_of_lt as lt_le}
 use lib.Signed.{le_z}
 use lib.Arith.{le→nltb}
 use lib.Ieee.{Float, nan, inf, fin, Format, binary64, prec, emax, low, up, down, odd, units, round, sum, add, sub, neg, mul, below, lt, le, eq, fits, is_nan, of_int, to_signed}
@@ -14,7 +16,7 @@ use Rattle.doubles.proofs.Fractions.{lt_of}
 use Rattle.doubles.proofs.AddZero.{minus_zero}
 use Rattle.approximations.proofs.exp2.Exponent.{exponent_small}
 use Rattle.doubles.proofs.Floors.{zero_f, zero_is}
-use Rattle.doubles.proofs.NearestWhole.{minus, int_value, floor_int, floor_int_lem, floor_same, up_to, down_to, at_least, lt_le}
+use Rattle.doubles.proofs.NearestWhole.{minus, int_value, floor_int, floor_int_lem, floor_same, up_to, down_to}
 
 -- ---- v from -1022 up and below 1023
 abbrev pub Bound : Bool → ℕ → ℕ → Type 0

@@ -15,6 +15,7 @@ use Rattle.doubles.proofs.Signs.{clear, round_clear, cond_clear, add_clear, mul_
 use Rattle.doubles.proofs.Interpolation.{round_neg}
 use Rattle.doubles.proofs.AddZero.{not_above}
 use Rattle.doubles.proofs.Fractions.{add_of, sum_plain, sum_turned}
+use Rattle.doubles.proofs.Ratio.{neg_value}
 
 -- ---- finite
 finite_cond : (x : Float) → T (finite (finite_or_zero x))
@@ -34,12 +35,6 @@ exp2_finite v =
     finite_choice (finite v) (exp2_at v n) zero64 (finite_choice (outside32 n) zero64 (finite_or_zero r) tt (finite_cond r)) tt
 
 -- ---- x - y for a y up to x, and y - x
-pub neg_value : (y : Float) (s : Bool) (b d : ℕ) → HasValue y s b d → HasValue (neg y) (not s) b d
-unfolding neg
-neg_value nan s b d h = h
-neg_value (inf t) s b d h = h
-neg_value (fin t n g) s b d h = (ap not h.0, h.1)
-
 less_clear : (f : Format) (x y : Float) (a c b d : ℕ) → 0 < c → 0 < d → HasValue x false a c → HasValue y false b d → b * c ≤ a * d → T (clear (sub f x y))
 unfolding sub
 less_clear f x y a c b d C D v w h =

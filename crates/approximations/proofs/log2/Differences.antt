@@ -1,5 +1,6 @@
 -- The difference of two whole numbers as doubles is exact. Assumes nothing.
 use Rattle.std.proofs.Common.{◌≡◌, ℕ, suc, ◌-◌, ◌*◌, ◌^◌, ◌<◌, ◌≤◌, true, false, ltb, ◌⊎◌, pos, sym, refl, ap, ◌∙◌, inl, inr, true≢false, le_trans, le_of_eq, lt_of_lt_of_le, lt_of_le_of_lt, mul-le-mul_right, zero-lt-suc, mul_assoc, mul_comm, mul-lt-mul_of_pos_right, mul-pos, mul-one, mul_right_comm, arith, lit≤, lt→ltb}
+use Rattle.std.proofs.lemmas.Bool.{cases_lt}
 use native.Mathlib.Nat.{mul-sub}
 use lib.Arith.{le→nltb}
 use lib.Ieee.{Float, nan, inf, fin, Format, binary64, up, down, minus, round, sum, add, sub, neg, of_int, of_bits}
@@ -8,12 +9,12 @@ use lib.Ieee.Bits.{cond_no}
 use lib.Ieee.Exact.{HasValue}
 use lib.Ieee.Back.{round_whole}
 use lib.Ieee.Scale.{round_same}
-use Rattle.doubles.proofs.Exponents.{split, cond_yes, minus_neg, minus_pos}
+use Rattle.doubles.proofs.Exponents.{cond_yes, minus_neg, minus_pos}
 
 -- n C / C - k C / C, by which is the larger
 parts : (f : Format) (n k A B C : ℕ) → 0 < C → A ≡ n * C → B ≡ k * C → sum f false A true B C ≡ of_int f (minus n k)
 unfolding sum of_int
-parts f n k A B C P a b = go (split n k)
+parts f n k A B C P a b = go (cases_lt n k)
   where
     over : (n k A B : ℕ) → A ≡ n * C → B ≡ k * C → (A - B) * 1 ≡ (n - k) * C
     over n k A B a b = mul-one (A - B) ∙ ap (λ (z : ℕ). z - B) (a ∙ mul_comm n C) ∙ ap (λ (z : ℕ). C * n - z) (b ∙ mul_comm k C) ∙ sym (mul-sub C n k) ∙ mul_comm C (n - k)

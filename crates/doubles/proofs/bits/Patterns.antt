@@ -1,7 +1,6 @@
 -- Which values and patterns are NaN, as the code tests it. Assumes nothing.
-use Rattle.std.proofs.Common.{◌≡◌, ℕ, ◌%◌, ◌^◌, ◌<◌, ◌≤◌, Bool, not, T, sym, refl, ap, ◌∙◌, subst, lt→ltb}
-use lib.Arith.{le→nltb}
-use lib.Ieee.{Float, nan, inf, fin, binary64, is_nan, of_bits, nan_bits, to_bits}
+use Rattle.std.proofs.Common.{◌≡◌, ℕ, ◌%◌, ◌^◌, ◌<◌, T, sym, refl, ap, ◌∙◌, subst, lt→ltb}
+use lib.Ieee.{Float, nan, inf, fin, binary64, is_nan, of_bits, to_bits}
 use lib.Ieee.Bits.{nan_bits_is, nan_bits_above}
 
 -- ---- NaN
@@ -19,9 +18,6 @@ pub pattern_of_nan : (x : Float) → T (is_nan x) → 0x7ff8_0000_0000_0000 ≡ 
 pattern_of_nan x t = sym (ap (to_bits binary64) (is_nan_lem x t) ∙ nan_pattern)
 
 -- ---- the pattern less its sign, against that of the infinity
-pub no_nan : (b : ℕ) → b % 2 ^ 63 ≤ 0x7ff0_0000_0000_0000 → T (not (nan_bits binary64 b))
-no_nan b h = subst (λ (z : Bool). T (not z)) (sym (nan_bits_above binary64 b)) (le→nltb 0x7ff0_0000_0000_0000 (b % 2 ^ 63) h)
-
 pub above_nan : (b : ℕ) → 0x7ff0_0000_0000_0000 < b % 2 ^ 63 → of_bits binary64 b ≡ nan
 above_nan b h = is_nan_lem (of_bits binary64 b) (subst T (nan_bits_is binary64 b) (subst T (sym (nan_bits_above binary64 b)) (lt→ltb 0x7ff0_0000_0000_0000 (b % 2 ^ 63) h)))
 

@@ -1,249 +1,238 @@
--- What the proofs of `rounded` and `is_rounded` cite: the value of the pattern K * 2 ^ 52 + g, and that it is the root to the nearest. Assumes nothing.
-use Rattle.std.proofs.Common.{◌≡◌, ℕ, zero, suc, ◌+◌, ◌-◌, ◌*◌, ◌/◌, ◌%◌, ◌^◌, ◌<◌, ◌≤◌, Bool, true, false, cond, not, T, eqb, ltb, sym, ap, ◌∙◌, subst, le_trans, le_of_eq, lt_of_lt_of_le, le_of_suc-le-suc, lt_of_le_of_lt, add-zero, le_of_lt, mul-le-mul_right, mod-eq_of_lt, mul-lt-mul_of_pos_right, mul-pos, arith, lit<, lit≤, lt→ltb, pow_pos, pow_mono, pow-add, shl_lt, shl_exact}
-use native.Mathlib.Nat.{mul-mul-mul_comm}
-use lib.Arith.{digits_div, digits_mod}
-use lib.Bits.{bit_and, and_mask}
-use lib.Ieee.{Float, nan, inf, binary64, odd, units, fits, of_fields, of_bits, nan_bits}
-use lib.Ieee.Fits.{odd-fits}
-use lib.Ieee.Bits.{of_bits-fits, cond_no}
-use lib.Ieee.Exact.{HasValue, odd_sign, units_val}
-use Rattle.doubles.specs.Root.{IsRoot, NearRoot}
-use Rattle.doubles.proofs.Magnitude.{same_value}
-use Rattle.doubles.proofs.PowersOfTwo.{of_bits_is, under_63, not_top, not_nan}
-use Rattle.doubles.proofs.Roots.{sq_lt_back}
+-- `sqrt_of` of a double above zero and finite is the root to the nearest, and std's `sqrt` is `sqrt_of`. Assumes nothing.
+use Rattle.std.proofs.Common.{◌≡◌, ℕ, zero, suc, ◌+◌, ◌-◌, ◌*◌, ◌/◌, ◌%◌, ◌^◌, ◌<◌, ◌≤◌, true, false, cond, T, eqb, ltb, leb, ◌&&◌, ℤ, sym, refl, ap, ◌∙◌, subst, inl, inr, zero-le, ltb→lt, le_trans, le_of_eq, lt_of_lt_of_le, le_of_suc-le-suc, lt_of_le_of_lt, lt_irrefl, mul-le-mul_right, mul-le-mul_left, zero-lt-suc, mul_assoc, mul_comm, mul_left_comm, mul-one, zero-mul, mul_right_comm, mul-lt-mul_of_pos_right, mul-pos, lt_of_not-le, not-le_of_lt, div-lt_iff_lt-mul, le-div_iff_mul-le, mul-div_cancel, mul-le-mul, le_of_mul-le-mul_right, eq-zero-or-pos, arith, lit≤, eqb→eq, pow_pos, pow_mono, pow-add}
+use native.Mathlib.Nat.{pow-succ', eq_of_mul-eq-mul_right, mul-mul-mul_comm}
+use lib.Arith.{lt_of_le-ne}
+use lib.Ieee.{Float, nan, inf, fin, binary64, up, down, size, round, fits, lt, root_twice, sqrt}
+use lib.Ieee.Digits.{size-lt, size_reaches}
+use lib.Ieee.Fits.{and_l, down_pos, round_is}
+use lib.Ieee.Nearest.{closest}
+use lib.Ieee.Scale.{finite}
+use Rattle.doubles.specs.Arithmetic.{zero64}
+use Rattle.doubles.specs.Root.{isqrt, sqrt_of, round_root, square_units, NearRoot}
+use Rattle.doubles.proofs.Magnitude.{mag, mag_val, low_enough, small_enough, unit_pow}
+use Rattle.doubles.proofs.Rounding.{closest_near}
+use Rattle.doubles.proofs.Floors.{zero_is}
+use Rattle.doubles.proofs.Roots.{handed, root_fraction, root_under, root_from, root_over, root_near, sq_le_back, root_below_same}
+use Rattle.doubles.proofs.Bound.{four}
 
--- ---- the 54 digits of the root, and the 53 that are left of them
-even_near : (h X : ℕ) → IsRoot (2 * X) (2 * suc h) → ((2 * h + 1) * (2 * h + 1) < 2 * X) × (2 * X < (2 * suc h + 1) * (2 * suc h + 1))
-even_near h X r = let a = r.0 in let b = r.1 in omega arith
+-- ---- the root of an m of at most 53 digits, times a power of two, is never halfway: the square of a number halfway has more digits
+twice_pow : (m i : ℕ) → m * 2 ^ suc i ≡ 2 * (m * 2 ^ i)
+twice_pow m i = ap (λ (z : ℕ). m * z) (pow-succ' 2 i) ∙ mul_left_comm m 2 (2 ^ i)
 
-odd_near : (h X : ℕ) → IsRoot (2 * X) (2 * h + 1) → ((2 * h + 1) * (2 * h + 1) < 2 * X) × (2 * X < (2 * (h + 1) + 1) * (2 * (h + 1) + 1))
-odd_near h X r = let a = r.0 in let b = r.1 in omega arith
+not_even : (m n : ℕ) → m % 2 ≡ 1 → m ≡ 2 * n → ⊥
+not_even m n p e = omega arith
 
-abbrev pub Near : ℕ → ℕ → Type 0
-Near n g = ((2 * g - 1) * (2 * g - 1) < n) × (n < (2 * g + 1) * (2 * g + 1))
-
-near_root : (q X : ℕ) → IsRoot (2 * X) q → 0 < q → Near (2 * X) ((q + 1) / 2)
-near_root q X r p = go (q / 2) (q % 2) (parts q) (bit q)
+odd_part : (i j m n : ℕ) → m % 2 ≡ 1 → n % 2 ≡ 1 → m * 2 ^ i ≡ n * 2 ^ j → m ≡ n
+odd_part zero zero m n p q e = sym (mul-one m) ∙ e ∙ mul-one n
+odd_part zero (suc j) m n p q e = absurd (not_even m (n * 2 ^ j) p (sym (mul-one m) ∙ e ∙ twice_pow n j))
+odd_part (suc i) zero m n p q e = absurd (not_even n (m * 2 ^ i) q (sym (mul-one n) ∙ sym e ∙ twice_pow m i))
+odd_part (suc i) (suc j) m n p q e = odd_part i j m n p q (half (m * 2 ^ i) (n * 2 ^ j) (sym (twice_pow m i) ∙ e ∙ twice_pow n j))
   where
-    parts : (q : ℕ) → q ≡ 2 * (q / 2) + q % 2
-    parts q = omega arith
+    half : (a b : ℕ) → 2 * a ≡ 2 * b → a ≡ b
+    half a b e = omega arith
 
-    bit : (q : ℕ) → q % 2 < 2
-    bit q = omega arith
+ruleset products = (mul_assoc, mul_comm, mul_left_comm)
 
-    half_even : (h q : ℕ) → q ≡ 2 * suc h + 0 → (q + 1) / 2 ≡ suc h
-    half_even h q e = omega arith
-
-    half_odd : (h q : ℕ) → q ≡ 2 * h + 1 → (q + 1) / 2 ≡ h + 1
-    half_odd h q e = omega arith
-
-    less_even : (h : ℕ) → 2 * suc h - 1 ≡ 2 * h + 1
-    less_even h = omega arith
-
-    less_odd : (h : ℕ) → 2 * (h + 1) - 1 ≡ 2 * h + 1
-    less_odd h = omega arith
-
-    go : (h b : ℕ) → q ≡ 2 * h + b → b < 2 → Near (2 * X) ((q + 1) / 2)
-    go zero zero e l = absurd (none q p e)
-      where
-        none : (q : ℕ) → 0 < q → q ≡ 2 * 0 + 0 → ⊥
-        none q p e = omega arith
-    go (suc h) zero e l =
-        let t = even_near h X (subst (λ (z : ℕ). IsRoot (2 * X) z) (e ∙ add-zero (2 * suc h)) r) in
-        subst (λ (g : ℕ). Near (2 * X) g) (sym (half_even h q e)) (subst (λ (d : ℕ). d * d < 2 * X) (sym (less_even h)) t.0, t.1)
-    go h (suc zero) e l =
-        let t = odd_near h X (subst (λ (z : ℕ). IsRoot (2 * X) z) e r) in
-        subst (λ (g : ℕ). Near (2 * X) g) (sym (half_odd h q e)) (subst (λ (d : ℕ). d * d < 2 * X) (sym (less_odd h)) t.0, t.1)
-    go h (suc (suc b)) e l = absurd (omega arith)
-
--- ---- how large the root is: M is from 2 ^ 52 up and at most 2 ^ 54 - 2
-module _ (M q : ℕ) (lo : 2 ^ 52 ≤ M) (hi : M + 2 ≤ 2 ^ 54) (r : IsRoot (M * 2 ^ 54) q) where
-  pub root_ge : 2 ^ 53 ≤ q
-  root_ge = le_of_suc-le-suc (sq_lt_back (2 ^ 53) (suc q) (lt_of_le_of_lt (from M lo) r.1))
-    where
-      from : (M : ℕ) → 2 ^ 52 ≤ M → 2 ^ 53 * 2 ^ 53 ≤ M * 2 ^ 54
-      from M h = omega arith
-
-  pub root_lt : q + 1 < 2 ^ 54
-  root_lt = more q (sq_lt_back q (2 ^ 54 - 1) (lt_of_le_of_lt r.0 (to M hi)))
-    where
-      to : (M : ℕ) → M + 2 ≤ 2 ^ 54 → M * 2 ^ 54 < (2 ^ 54 - 1) * (2 ^ 54 - 1)
-      to M h = omega arith
-
-      more : (q : ℕ) → q < 2 ^ 54 - 1 → q + 1 < 2 ^ 54
-      more q h = omega arith
-
-  -- the 53 digits
-  pub half_ge : 2 ^ 52 ≤ (q + 1) / 2
-  half_ge = from q root_ge
-    where
-      from : (q : ℕ) → 2 ^ 53 ≤ q → 2 ^ 52 ≤ (q + 1) / 2
-      from q h = omega arith
-
-  pub half_lt : (q + 1) / 2 < 2 ^ 53
-  half_lt = to q root_lt
-    where
-      to : (q : ℕ) → q + 1 < 2 ^ 54 → (q + 1) / 2 < 2 ^ 53
-      to q h = omega arith
-
-  pub digits_near : Near (M * 2 ^ 54) ((q + 1) / 2)
-  digits_near = subst (λ (n : ℕ). Near n ((q + 1) / 2)) (sym (twice M)) (near_root q (M * 2 ^ 53) (subst (λ (n : ℕ). IsRoot n q) (twice M) r) (lt_of_lt_of_le (lit< tt) root_ge))
-    where
-      twice : (M : ℕ) → M * 2 ^ 54 ≡ 2 * (M * 2 ^ 53)
-      twice M = omega arith
-
--- ---- the pattern k * 2 ^ 52 + g is g * 2 ^ k units
-fields : (t j : ℕ) → j < 2046 → HasValue (of_fields binary64 false (suc j) t) false ((2 ^ 52 + t) * 2 ^ j) (2 ^ 1074)
-unfolding of_fields
-fields t j h = subst (λ (z : Float). HasValue z false ((2 ^ 52 + t) * 2 ^ j) (2 ^ 1074)) (sym (cond_no (eqb (suc j) 2047) (cond (eqb t 0) (inf false) nan) (odd 53 false (2 ^ 52 + t) j 1074) (not_top j h))) (odd_sign 53 false (2 ^ 52 + t) j 1074)
-
--- what a pattern's two fields are
-pub pattern_value : (b j t : ℕ) → b ≡ suc j * 2 ^ 52 + t → t < 2 ^ 52 → j < 2046 → HasValue (of_bits binary64 b) false ((2 ^ 52 + t) * 2 ^ j) (2 ^ 1074)
-pattern_value b j t e T52 h =
-    let L : b < 2 ^ 63 = small b j t e T52 h in
-    let x : b % 2 ^ 63 / 2 ^ 52 ≡ suc j = ap (λ (z : ℕ). z / 2 ^ 52) (mod-eq_of_lt L ∙ e) ∙ digits_div (suc j) T52 in
-    let d : b % 2 ^ 52 ≡ t = ap (λ (z : ℕ). z % 2 ^ 52) e ∙ digits_mod (suc j) T52 in
-    subst (λ (z : Float). HasValue z false ((2 ^ 52 + t) * 2 ^ j) (2 ^ 1074))
-    (sym (of_bits_is b ∙ ap (λ (s : Bool). of_fields binary64 s (b % 2 ^ 63 / 2 ^ 52) (b % 2 ^ 52)) (under_63 b L) ∙ ap (λ (z : ℕ). of_fields binary64 false z (b % 2 ^ 52)) x ∙ ap (λ (z : ℕ). of_fields binary64 false (suc j) z) d))
-    (fields t j h)
+never_half : (m j k h : ℕ) → m % 2 ≡ 1 → m < 2 ^ 53 → 2 ^ 53 - 1 ≤ 2 * h + 1 → (2 * h + 1) * 2 ^ k * ((2 * h + 1) * 2 ^ k) ≡ 4 * (m * 2 ^ j * 2 ^ 1074) → ⊥
+never_half m j k h p u l e =
+    let z = 2 * h + 1 in
+    let a : m * 2 ^ (j + 1076) ≡ z * z * 2 ^ (k + k) = ap (λ (y : ℕ). m * y) (pow-add 2 j 1076) ∙ move m (2 ^ j) (2 ^ 1074) ∙ sym e ∙ mul-mul-mul_comm z (2 ^ k) z (2 ^ k) ∙ ap (λ (y : ℕ). z * z * y) (sym (pow-add 2 k k)) in
+    let s : m ≡ z * z = odd_part (j + 1076) (k + k) m (z * z) p (odd_square h) a in
+    lt_irrefl m (lt_of_lt_of_le u (le_trans (lit≤ tt) (le_trans (mul-le-mul l l) (le_of_eq (sym s)))))
   where
-    small : (b j t : ℕ) → b ≡ suc j * 2 ^ 52 + t → t < 2 ^ 52 → j < 2046 → b < 2 ^ 63
-    small b j t e T52 h = omega arith
+    odd_square : (h : ℕ) → (2 * h + 1) * (2 * h + 1) % 2 ≡ 1
+    odd_square h = omega arith
 
-module _ (k g : ℕ) (K : k < 2046) (lo : 2 ^ 52 ≤ g) (hi : g < 2 ^ 53) where
-  made_value : HasValue (of_bits binary64 (k * 2 ^ 52 + g)) false (g * 2 ^ k) (2 ^ 1074)
-  made_value = subst (λ (z : ℕ). HasValue (of_bits binary64 (k * 2 ^ 52 + g)) false (z * 2 ^ k) (2 ^ 1074)) (back g lo) (pattern_value (k * 2 ^ 52 + g) k (g - 2 ^ 52) (splits k g lo) (rest g lo hi) K)
+    move : (m a b : ℕ) → m * (a * (4 * b)) ≡ 4 * (m * a * b)
+    move m a b = simp products
+
+-- ---- √(num / den) to the nearest. v is its square in units of the square of the smallest value
+module _ (num den m j : ℕ) (D : 0 < den) (p : m % 2 ≡ 1) (u : m < 2 ^ 53) (e : num * 2 ^ 1074 ≡ m * 2 ^ j * den) where
+  abbrev l : ℕ
+  l = 2 ^ 1074
+
+  abbrev v : ℕ
+  v = m * 2 ^ j * l
+
+  abbrev c : ℕ
+  c = 2 * (den * (2 * l))
+
+  abbrev n : ℕ
+  n = handed num den l * l
+
+  abbrev k : ℕ
+  k = size (n / c) - 53
+
+  abbrev g : ℕ
+  g = closest n (c * 2 ^ k)
+
+  L : 0 < l
+  L = pow_pos 1074
+
+  C : 0 < c
+  C = mul-pos (zero-lt-suc 1) (mul-pos D (mul-pos (zero-lt-suc 1) L))
+
+  W : num * (2 * l * (2 * l)) ≡ 4 * v * den
+  W = four num den l (m * 2 ^ j) e
+
+  -- 2 * n / c is on the same side of each whole number w as the root of 4 * v
+  from : (w : ℕ) → w * c ≤ 2 * n → w * w ≤ 4 * v
+  from w h = le_of_suc-le-suc (lt_of_not-le (λ (q : suc (4 * v) ≤ w * w). not-le_of_lt (root_under num den l w D L (lt_of_le_of_lt (le_of_eq W) (mul-lt-mul_of_pos_right q D))) h))
+
+  to : (w : ℕ) → 2 * n ≤ w * c → 4 * v ≤ w * w
+  to w h = le_of_suc-le-suc (lt_of_not-le (λ (q : suc (w * w) ≤ 4 * v). not-le_of_lt (root_over num den l w D L (lt_of_lt_of_le (mul-lt-mul_of_pos_right q D) (le_of_eq (sym W)))) h))
+
+  below : (w : ℕ) → 2 * n < w * c → 4 * v < w * w
+  below w h = lt_of_not-le (λ (q : w * w ≤ 4 * v). not-le_of_lt h (root_from num den l w D (le_trans (mul-le-mul_right den q) (le_of_eq (sym W)))))
+
+  hi : 4 * v < 2 ^ 54 * 2 ^ k * (2 ^ 54 * 2 ^ k)
+  hi = below (2 ^ 54 * 2 ^ k) (twice n (2 ^ k) c (lt_of_lt_of_le ((div-lt_iff_lt-mul C).0 (lt_of_lt_of_le (size-lt (n / c)) (pow_mono (most (size (n / c)))))) (le_of_eq (ap (λ (z : ℕ). z * c) (pow-add 2 53 k)))))
     where
-      back : (g : ℕ) → 2 ^ 52 ≤ g → 2 ^ 52 + (g - 2 ^ 52) ≡ g
-      back g h = omega arith
+      most : (s : ℕ) → s ≤ 53 + (s - 53)
+      most s = omega arith
 
-      splits : (k g : ℕ) → 2 ^ 52 ≤ g → k * 2 ^ 52 + g ≡ suc k * 2 ^ 52 + (g - 2 ^ 52)
-      splits k g h = omega arith
+      twice : (n P c : ℕ) → n < 2 ^ 53 * P * c → 2 * n < 2 ^ 54 * P * c
+      twice n P c h = omega arith
 
-      rest : (g : ℕ) → 2 ^ 52 ≤ g → g < 2 ^ 53 → g - 2 ^ 52 < 2 ^ 52
-      rest g h l = omega arith
-
-  in_range : g * 2 ^ k < 2 ^ (1074 + 1024)
-  in_range = lt_of_lt_of_le (shl_lt 53 k hi) (pow_mono (room k K))
+  some : 1 ≤ m * 2 ^ j
+  some = mul-pos (odd_pos m p) (pow_pos j)
     where
-      room : (k : ℕ) → k < 2046 → 53 + k ≤ 1074 + 1024
-      room k h = omega arith
+      odd_pos : (m : ℕ) → m % 2 ≡ 1 → 0 < m
+      odd_pos m p = omega arith
 
-  units_fits : T (fits binary64 (units binary64 false g k))
-  unfolding units
-  units_fits = go (ltb (g * 2 ^ k) (2 ^ (1074 + 1024))) (lt→ltb (g * 2 ^ k) (2 ^ (1074 + 1024)) in_range)
+  lo : 2 ^ 53 * 2 ^ k * (2 ^ 53 * 2 ^ k) ≤ 4 * v
+  lo = elim (eq-zero-or-pos k) [
+    | inl z ↦ subst (λ (y : ℕ). 2 ^ 53 * 2 ^ y * (2 ^ 53 * 2 ^ y) ≤ 4 * v) (sym z) (le_trans (lit≤ tt) (mul-le-mul_left 4 (mul-le-mul_right l some)))
+    | inr o ↦ from (2 ^ 53 * 2 ^ k) (twice n (2 ^ k) c (le_trans (le_of_eq (ap (λ (z : ℕ). z * c) (sym (pow-add 2 52 k)))) ((le-div_iff_mul-le C).0 (size_reaches (n / c) (52 + k) (least (size (n / c)) o)))))
+  ]
     where
-      go : (b : Bool) → T b → T (fits binary64 (cond b (odd 54 false g k 1074) (inf false)))
-      go true h = odd-fits binary64 54 false g k (lt_of_lt_of_le hi (lit≤ tt)) (le_of_lt hi) in_range
-      go false h = absurd h
+      least : (s : ℕ) → 0 < s - 53 → 52 + (s - 53) < s
+      least s h = omega arith
 
-  pub made : (of_bits binary64 (k * 2 ^ 52 + g) ≡ units binary64 false g k) × T (not (nan_bits binary64 (k * 2 ^ 52 + g)))
-  made = (
-    same_value binary64 (of_bits binary64 (k * 2 ^ 52 + g)) (units binary64 false g k) false (g * 2 ^ k) (2 ^ 1074) (pow_pos 1074) (of_bits-fits binary64 (k * 2 ^ 52 + g)) units_fits made_value (units_val binary64 false g k in_range),
-    not_nan (k * 2 ^ 52 + g) (g * 2 ^ k) (2 ^ 1074) made_value,
-  )
+      twice : (n P c : ℕ) → 2 ^ 52 * P * c ≤ n → 2 ^ 53 * P * c ≤ 2 * n
+      twice n P c h = omega arith
 
--- ---- √(m * 2 ^ e) is √(M * 2 ^ 54) times 2 ^ k halves of a unit, where M is m or 2 m, by e's last digit
-module _ (N v P : ℕ) (L : 0 < P) (e : 4 * v ≡ N * (P * P)) where
-  scale_le : (a : ℕ) → a * a ≤ N → a * P * (a * P) ≤ 4 * v
-  scale_le a h = le_trans (le_of_eq (mul-mul-mul_comm a P a P)) (le_trans (mul-le-mul_right (P * P) h) (le_of_eq (sym e)))
+  near : (2 * n ≤ 2 * (g * (c * 2 ^ k)) + c * 2 ^ k) × (2 * (g * (c * 2 ^ k)) ≤ 2 * n + c * 2 ^ k)
+  near = closest_near n (c * 2 ^ k) (mul-pos C (pow_pos k))
 
-  scale_under : (a : ℕ) → a * a < N → a * P * (a * P) < 4 * v
-  scale_under a h = lt_of_le_of_lt (le_of_eq (mul-mul-mul_comm a P a P)) (lt_of_lt_of_le (mul-lt-mul_of_pos_right h (mul-pos L L)) (le_of_eq (sym e)))
-
-  scale_over : (a : ℕ) → N < a * a → 4 * v < a * P * (a * P)
-  scale_over a h = lt_of_le_of_lt (le_of_eq e) (lt_of_lt_of_le (mul-lt-mul_of_pos_right h (mul-pos L L)) (le_of_eq (sym (mul-mul-mul_comm a P a P))))
-
-abbrev pub K : ℕ → ℕ
-K e = (e - 52) / 2
-
-module _ (m e : ℕ) (ml : 2 ^ 52 ≤ m) (mh : m < 2 ^ 53) (el : 1022 ≤ e) (eh : e < 3120) where
-  abbrev M : ℕ
-  M = m * 2 ^ (e % 2)
-
-  bit : (e : ℕ) → e % 2 < 2
-  bit e = omega arith
-
-  -- what the shift gives
-  pub shifted : m * 2 ^ bit_and e 1 % 2 ^ 64 ≡ M
-  shifted = ap (λ (z : ℕ). m * 2 ^ z % 2 ^ 64) (and_mask e 1) ∙ shl_exact 53 (e % 2) 64 mh (room (e % 2) (bit e))
+  over : 4 * v ≤ (2 * g + 1) * 2 ^ k * ((2 * g + 1) * 2 ^ k)
+  over = to ((2 * g + 1) * 2 ^ k) (half n g (2 ^ k) c near.0)
     where
-      room : (b : ℕ) → b < 2 → 53 + b ≤ 64
-      room b h = omega arith
+      half : (n g P c : ℕ) → 2 * n ≤ 2 * (g * (c * P)) + c * P → 2 * n ≤ (2 * g + 1) * P * c
+      half n g P c h = omega arith
 
-  M_ge : 2 ^ 52 ≤ M
-  M_ge = go (e % 2) (bit e)
+  large : 2 ^ 52 ≤ g
+  large = enough g (le_of_mul-le-mul_right (sq_le_back (2 ^ 53 * 2 ^ k) ((2 * g + 1) * 2 ^ k) (le_trans lo over)) (pow_pos k))
     where
-      go : (b : ℕ) → b < 2 → 2 ^ 52 ≤ m * 2 ^ b
-      go zero h = omega arith
-      go (suc zero) h = omega arith
-      go (suc (suc b)) h = absurd (omega arith)
+      enough : (g : ℕ) → 2 ^ 53 ≤ 2 * g + 1 → 2 ^ 52 ≤ g
+      enough g h = omega arith
 
-  M_le : M + 2 ≤ 2 ^ 54
-  M_le = go (e % 2) (bit e)
+  under : (2 * g - 1) * 2 ^ k * ((2 * g - 1) * 2 ^ k) ≤ 4 * v
+  under = from ((2 * g - 1) * 2 ^ k) (half n g (2 ^ k) c near.1)
     where
-      go : (b : ℕ) → b < 2 → m * 2 ^ b + 2 ≤ 2 ^ 54
-      go zero h = omega arith
-      go (suc zero) h = omega arith
-      go (suc (suc b)) h = absurd (omega arith)
+      half : (n g P c : ℕ) → 2 * (g * (c * P)) ≤ 2 * n + c * P → (2 * g - 1) * P * c ≤ 2 * n
+      half n zero P c h = omega arith
+      half n (suc h) P c q = rw (less h) (omega (arith, q))
+        where
+          less : (h : ℕ) → 2 * suc h - 1 ≡ 2 * h + 1
+          less h = omega arith
 
-  pub root_asks : m * 2 ^ bit_and e 1 % 2 ^ 64 < 2 ^ 54
-  root_asks = lt_of_le_of_lt (le_of_eq shifted) (less M M_le)
+  pub round_root_near : NearRoot v (round_root binary64 num den)
+  round_root_near = record {
+    g = g;
+    k = k;
+    is = root_fraction binary64 num den ∙ round_is binary64 false (handed num den l) c;
+    lo = lo;
+    hi = hi;
+    under = lt_of_le-ne under (λ (q : (2 * g - 1) * 2 ^ k * ((2 * g - 1) * 2 ^ k) ≡ 4 * v). never_half m j k (g - 1) p u (big g large) (ap (λ (z : ℕ). z * 2 ^ k * (z * 2 ^ k)) (less g large) ∙ q));
+    over = lt_of_le-ne over (λ (q : 4 * v ≡ (2 * g + 1) * 2 ^ k * ((2 * g + 1) * 2 ^ k)). never_half m j k g p u (bigger g large) (sym q));
+  }
     where
-      less : (x : ℕ) → x + 2 ≤ 2 ^ 54 → x < 2 ^ 54
-      less x h = omega arith
+      less : (g : ℕ) → 2 ^ 52 ≤ g → 2 * (g - 1) + 1 ≡ 2 * g - 1
+      less g h = omega arith
 
-  K_lt : K e < 2046
-  K_lt = go e eh
-    where
-      go : (e : ℕ) → e < 3120 → (e - 52) / 2 < 2046
-      go e h = omega arith
+      big : (g : ℕ) → 2 ^ 52 ≤ g → 2 ^ 53 - 1 ≤ 2 * (g - 1) + 1
+      big g h = omega arith
 
-  whole : 4 * (m * 2 ^ e) ≡ M * 2 ^ 54 * (2 ^ K e * 2 ^ K e)
-  whole = ap (λ (z : ℕ). 4 * (m * z)) (ap (λ (z : ℕ). 2 ^ z) (parts e el) ∙ pow-add 2 (52 + e % 2) (K e + K e) ∙ ap (λ (z : ℕ). z * 2 ^ (K e + K e)) (pow-add 2 52 (e % 2)) ∙ ap (λ (z : ℕ). 2 ^ 52 * 2 ^ (e % 2) * z) (pow-add 2 (K e) (K e))) ∙ ring m (2 ^ (e % 2)) (2 ^ K e)
-    where
-      parts : (e : ℕ) → 1022 ≤ e → e ≡ 52 + e % 2 + ((e - 52) / 2 + (e - 52) / 2)
-      parts e h = omega arith
+      bigger : (g : ℕ) → 2 ^ 52 ≤ g → 2 ^ 53 - 1 ≤ 2 * g + 1
+      bigger g h = omega arith
 
-      ring : (m B P : ℕ) → 4 * (m * (2 ^ 52 * B * (P * P))) ≡ m * B * 2 ^ 54 * (P * P)
-      ring m B P = omega arith
+-- what is near is `round_root`
+near_at : (num den X : ℕ) (r : Float) → 0 < den → num * 2 ^ 1074 ≡ X * den → NearRoot (X * 2 ^ 1074) r → r ≡ round_root binary64 num den
+near_at num den X r D e n =
+    let l = 2 ^ 1074 in
+    let W : num * (2 * l * (2 * l)) ≡ 4 * (X * l) * den = four num den l X e in
+    n.is
+    ∙ sym (root_near binary64 num den n.g n.k D
+    (inr (le_trans (mul-le-mul_right den n.lo) (le_of_eq (sym W))))
+    (lt_of_le_of_lt (le_of_eq W) (mul-lt-mul_of_pos_right n.hi D))
+    (lt_of_lt_of_le (mul-lt-mul_of_pos_right n.under D) (le_of_eq (sym W)))
+    (lt_of_le_of_lt (le_of_eq W) (mul-lt-mul_of_pos_right n.over D)))
 
-  -- the pattern of 53 digits g that are near
-  module _ (g : ℕ) (gl : 2 ^ 52 ≤ g) (gh : g < 2 ^ 53) (n : Near (M * 2 ^ 54) g) where
-    pub near_digits : NearRoot (m * 2 ^ e) (of_bits binary64 (K e * 2 ^ 52 + g))
-    near_digits =
-        let P = 2 ^ K e in
-        let L = pow_pos (K e) in
-        record {
-          g = g;
-          k = K e;
-          is = (made (K e) g K_lt gl gh).0;
-          lo = scale_le (M * 2 ^ 54) (m * 2 ^ e) P L whole (2 ^ 53) (from M M_ge);
-          hi = scale_over (M * 2 ^ 54) (m * 2 ^ e) P L whole (2 ^ 54) (to M M_le);
-          under = scale_under (M * 2 ^ 54) (m * 2 ^ e) P L whole (2 * g - 1) n.0;
-          over = scale_over (M * 2 ^ 54) (m * 2 ^ e) P L whole (2 * g + 1) n.1;
-        }
-      where
-        from : (M : ℕ) → 2 ^ 52 ≤ M → 2 ^ 53 * 2 ^ 53 ≤ M * 2 ^ 54
-        from M h = omega arith
+-- ---- std's root of a / down e, which is X units: that of X * 2 ^ 122 / 2 ^ 1196
+same_twice : (n : ℕ) → root_twice n ≡ 2 * isqrt n + cond (eqb (isqrt n * isqrt n) n) 0 1
+unfolding root_twice isqrt
+same_twice n = ap (λ (q : ℕ). 2 * q + cond (eqb (q * q) n) 0 1) (root_below_same (size n) n)
 
-        to : (M : ℕ) → M + 2 ≤ 2 ^ 54 → M * 2 ^ 54 < 2 ^ 54 * 2 ^ 54
-        to M h = omega arith
+std_root : (a X : ℕ) (e : ℤ) → a * 2 ^ 1074 ≡ X * down e → round binary64 false (root_twice (a * 2 ^ 4542 / down e)) (2 ^ 2272) ≡ round_root binary64 (X * 2 ^ 122) (2 ^ 1196)
+std_root a X e h =
+    ap (λ (z : ℕ). round binary64 false (root_twice z) (2 ^ 2272)) whole
+    ∙ ap (λ (z : ℕ). round binary64 false z (2 ^ 2272)) (same_twice (X * 2 ^ 122 * 2 ^ 1196 * (2 * 2 ^ 1074 * (2 * 2 ^ 1074))))
+    ∙ sym (root_fraction binary64 (X * 2 ^ 122) (2 ^ 1196))
+  where
+    apart : (X b c d : ℕ) → X * (b * c * d) ≡ X * b * c * d
+    apart X b c d = sym (mul_assoc X (b * c) d) ∙ ap (λ (z : ℕ). z * d) (sym (mul_assoc X b c))
 
-  module _ (q : ℕ) (r : IsRoot (m * 2 ^ bit_and e 1 % 2 ^ 64 * 2 ^ 54) q) where
-    r' : IsRoot (M * 2 ^ 54) q
-    r' = subst (λ (z : ℕ). IsRoot (z * 2 ^ 54) q) shifted r
+    more : (a X b c d : ℕ) → a * b ≡ X * d → a * (b * c) ≡ X * c * d
+    more a X b c d e = sym (mul_assoc a b c) ∙ ap (λ (z : ℕ). z * c) e ∙ mul_right_comm X d c
 
-    b_is : K e * 2 ^ 52 % 2 ^ 64 + (q + 1) / 2 ≡ K e * 2 ^ 52 + (q + 1) / 2
-    b_is = ap (λ (z : ℕ). z + (q + 1) / 2) (mod-eq_of_lt (small (K e) K_lt))
-      where
-        small : (k : ℕ) → k < 2046 → k * 2 ^ 52 < 2 ^ 64
-        small k h = omega arith
+    whole : a * 2 ^ 4542 / down e ≡ X * 2 ^ 122 * 2 ^ 1196 * (2 * 2 ^ 1074 * (2 * 2 ^ 1074))
+    whole = ap (λ (z : ℕ). z / down e) (more a X (2 ^ 1074) (2 ^ 3468) (down e) h) ∙ mul-div_cancel (X * 2 ^ 3468) (down_pos e) ∙ apart X (2 ^ 122) (2 ^ 1196) (2 * 2 ^ 1074 * (2 * 2 ^ 1074))
 
-    pub no_nan : T (not (nan_bits binary64 (K e * 2 ^ 52 % 2 ^ 64 + (q + 1) / 2)))
-    no_nan = subst (λ (z : ℕ). T (not (nan_bits binary64 z))) (sym b_is) (made (K e) ((q + 1) / 2) K_lt (half_ge M q M_ge M_le r') (half_lt M q M_ge M_le r')).1
+-- ---- a double above zero and finite is an odd number of units, times a power of two
+module _ (m : ℕ) (e : ℤ) (h : T (fits binary64 (fin false (suc m) e))) where
+  abbrev X : ℕ
+  X = mag binary64 (fin false (suc m) e)
 
-    pub near : NearRoot (m * 2 ^ e) (of_bits binary64 (K e * 2 ^ 52 % 2 ^ 64 + (q + 1) / 2))
-    near =
-        subst (λ (z : ℕ). NearRoot (m * 2 ^ e) (of_bits binary64 z)) (sym b_is)
-        (near_digits ((q + 1) / 2) (half_ge M q M_ge M_le r') (half_lt M q M_ge M_le r') (digits_near M q M_ge M_le r'))
+  value : suc m * up e * 2 ^ 1074 ≡ X * down e
+  value = (mag_val binary64 (fin false (suc m) e) h tt).1
+
+  odd : suc m % 2 ≡ 1
+  unfolding fits
+  odd =
+      let a = eqb (suc m % 2) 1 in
+      let b = ltb (suc m) (2 ^ 53) in
+      let c = leb (down e) (2 ^ 1074) in
+      eqb→eq (suc m % 2) 1 (and_l a b (and_l (a && b) c (and_l (a && b && c) (ltb (suc m * up e) (2 ^ 1024 * down e)) h)))
+
+  power : (j : ℕ) × (up e * 2 ^ 1074 ≡ 2 ^ j * down e)
+  power = unit_pow 1074 e (low_enough binary64 false (suc m) e h)
+
+  parts : suc m * up e * 2 ^ 1074 ≡ suc m * 2 ^ power.0 * down e
+  parts = mul_assoc (suc m) (up e) (2 ^ 1074) ∙ ap (λ (z : ℕ). suc m * z) power.1 ∙ sym (mul_assoc (suc m) (2 ^ power.0) (down e))
+
+  root : NearRoot (X * 2 ^ 1074) (round_root binary64 (suc m * up e) (down e))
+  root =
+      subst (λ (z : ℕ). NearRoot (z * 2 ^ 1074) (round_root binary64 (suc m * up e) (down e))) (eq_of_mul-eq-mul_right (down e) (down_pos e) (suc m * 2 ^ power.0) X (sym parts ∙ value))
+      (round_root_near (suc m * up e) (down e) (suc m) power.0 (down_pos e) odd (small_enough binary64 false (suc m) e h) parts)
+
+  same : round binary64 false (root_twice (suc m * up e * 2 ^ 4542 / down e)) (2 ^ 2272) ≡ round_root binary64 (suc m * up e) (down e)
+  same = std_root (suc m * up e) X e value ∙ sym (near_at (X * 2 ^ 122) (2 ^ 1196) X (round_root binary64 (suc m * up e) (down e)) (pow_pos 1196) (mul_assoc X (2 ^ 122) (2 ^ 1074)) root)
+
+-- ---- `sqrt_of`
+pub sqrt_near : (x : Float) → T (fits binary64 x) → T (lt zero64 x) → T (finite x) → NearRoot (square_units x) (sqrt_of binary64 x)
+unfolding lt sqrt_of
+sqrt_near nan h p t = absurd p
+sqrt_near (inf s) h p t = absurd t
+sqrt_near (fin true m e) h p t = absurd p
+sqrt_near (fin false zero e) h p t = absurd (lt_irrefl 0 (lt_of_le_of_lt zero-le (lt_of_lt_of_le (ltb→lt (0 * 1 * down e) (0 * up e * 1) p) (le_of_eq (mul-one (0 * up e) ∙ zero-mul (up e))))))
+sqrt_near (fin false (suc m) e) h p t = root m e h
+
+pub sqrt_same : (x : Float) → T (fits binary64 x) → sqrt binary64 x ≡ sqrt_of binary64 x
+unfolding sqrt sqrt_of
+sqrt_same nan h = refl
+sqrt_same (inf true) h = refl
+sqrt_same (inf false) h = refl
+sqrt_same (fin s zero e) h = sym (zero_is s 0 e h (zero-mul (up e)))
+sqrt_same (fin true (suc m) e) h = refl
+sqrt_same (fin false (suc m) e) h = same m e h
