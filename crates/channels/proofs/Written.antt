@@ -14,9 +14,6 @@ use Rattle.layout.specs.declared.Channel.{Channel}
 use Rattle.layout.specs.declared.Layout.{Layout}
 use Rattle.layout.specs.Channels.{channels_of, active, channel_name, no_channel}
 
-abbrev named : List Channel → List ℕ
-named cs = map channel_name (filter active cs)
-
 -- n names are written, and what lies behind is as it was
 pub record Written (seen : List Channel) (old out : List ℕ) (n : ℕ) : Type 0 where
   pub count : n ≡ length (filter active seen)

@@ -1,5 +1,5 @@
 // The channels of a layout, and which of them are active.
-ghost use Rattle.std.specs.Prelude.{◌≡◌, ◌++◌, min, drop};
+ghost use Rattle.std.specs.Prelude.{◌≡◌, ◌≤◌, ◌++◌, min, drop};
 ghost use Rattle.layout.specs.Channels.{active, active_names, active_count};
 
 use layout::{Channel, Layout};
@@ -11,7 +11,7 @@ fn is_active(c: Channel) -> bool
     c.enabled & !c.lfe
 }
 
-// How many of the 24 places a count covers.
+// How many of the 24 places a count covers. Apart from `layout::covered_layers`: both are `min` by a name.
 pub fn covered(count: usize) -> usize
     ensures { result ≡ min count 24 }
 {
@@ -20,7 +20,8 @@ pub fn covered(count: usize) -> usize
 
 // n: how many channels are active.
 pub fn active_count(l: Layout) -> usize
-    ensures { result ≡ active_count l }
+    ensures value { result ≡ active_count l }
+    ensures few { result ≤ 24 }
 {
     l.channels[..covered(l.used)]
         .iter()
@@ -30,9 +31,10 @@ pub fn active_count(l: Layout) -> usize
 
 // Writes the names of the active channels, in list order, to the front of out, and answers how many
 // there are.
-// Into a lent array, whose rest stays as it is: two answers, and no heap to hold them in one.
+// Into a lent array, whose rest stays as it is; n counts what is written, which no zip would tell.
 pub fn active_names(l: Layout, out: &mut [u64; 24]) -> usize
     ensures value { result ≡ active_count l }
+    ensures few { result ≤ 24 }
     ensures out_after { out.new ≡ active_names l ++ drop (active_count l) out.old }
 {
     let mut n = 0;

@@ -1,23 +1,16 @@
--- The radius between two knots is from 0 to that of the second: each operation rounds no higher than the same operation at the second knot. Assumes nothing.
-use mathlib.Core.Path.{◌≡◌, refl, ap, ◌∙◌, subst}
+-- The order of plain values by their fractions, which rounding keeps, and the operations on such values. Assumes nothing.
+use mathlib.Core.Path.{◌≡◌, refl, ap, subst}
 use Prim.Native.Nat.{ℕ, zero, suc, ◌*◌, ◌≤◌, ◌<◌}
-use native.Mathlib.Nat.{lt_irrefl}
 use native.Mathlib.Omega.{arith}
 use mathlib.Core.Bool.{Bool, true, false, not, cond}
-use lib.IntN.{pos, negsuc}
 use lib.Dec.{T, eqb, ltb→lt, eqb-suc-zero}
 use lib.Ieee.{Float, nan, inf, fin, binary64, up, down, round, mul, div, lt, le, eq}
 use lib.Ieee.Order.{le_of_values, round_mono}
 use lib.Ieee.Exact.{HasValue}
 use lib.Ieee.Positive.{num, den, den_pos}
-use Rattle.doubles.specs.Arithmetic.{◌⊕◌, ◌⊖◌, ◌⊗◌, ◌⊘◌, zero64}
-use Rattle.doubles.proofs.Signs.{clear}
-use Rattle.doubles.proofs.Laws.{div_clear}
-use Rattle.extent.proofs.Tests.{at_least}
-
--- 0.7
-abbrev top : Float
-top = fin false 3152519739159347 (negsuc 51)
+use Rattle.doubles.specs.Arithmetic.{◌⊗◌, ◌⊘◌, zero64}
+use Rattle.doubles.proofs.Signs.{clear, round_clear}
+use Rattle.doubles.proofs.Order.{lt_or_eq}
 
 -- finite, with a clear sign
 abbrev pub plain : Float → Bool
@@ -38,7 +31,7 @@ under_of (fin true m e) y p q h = absurd p
 under_of (fin false m e) nan p q h = absurd q
 under_of (fin false m e) (inf s) p q h = absurd q
 under_of (fin false m e) (fin true n d) p q h = absurd q
-under_of (fin false m e) (fin false n d) p q h = at_least (m * up e * down d) (n * up d * down e) true h
+under_of (fin false m e) (fin false n d) p q h = lt_or_eq (m * up e * down d) (n * up d * down e) h
 
 value : (x : Float) → T (plain x) → HasValue x false (num x) (den x)
 value nan p = absurd p
@@ -60,18 +53,6 @@ plain_of (inf false) (fin t n d) c l q = absurd l
 plain_of (fin s m e) hi c l q = c
 
 -- ---- rounding
-quotient_is : (a c : ℕ) → fin false a (pos 0) ⊘ fin false (suc c) (pos 0) ≡ round binary64 false (a * 1 * 1) (suc c * 1 * 1)
-unfolding div
-quotient_is a c = ap (λ (b : Bool). cond b (cond (eqb a 0) nan (inf false)) (round binary64 false (a * 1 * 1) (suc c * 1 * 1))) (eqb-suc-zero c)
-
-round_clear : (a c : ℕ) → 0 < c → T (clear (round binary64 false a c))
-round_clear a zero C = absurd (lt_irrefl 0 C)
-round_clear a (suc c) C =
-    let e = quotient_is a c ∙ ap (λ (n : ℕ). round binary64 false n (suc c * 1 * 1)) (twice a) ∙ ap (round binary64 false a) (twice (suc c)) in
-    subst (λ (z : Float). T (clear z)) e (div_clear (fin false a (pos 0)) (fin false (suc c) (pos 0)) tt tt)
-  where
-    twice : (n : ℕ) → n * 1 * 1 ≡ n
-    twice n = omega arith
 
 -- a / c is at most n / d, which is rounded to hi
 abbrev pub Within : Float → Float → Type 0
@@ -80,7 +61,7 @@ Within z hi = T (plain z) × Under z hi
 pub within : (a c n d : ℕ) (hi : Float) → 0 < c → 0 < d → a * d ≤ n * c → round binary64 false n d ≡ hi → T (plain hi) → Within (round binary64 false a c) hi
 within a c n d hi C D h e q =
     let l : T (le (round binary64 false a c) hi) = subst (λ (z : Float). T (le (round binary64 false a c) z)) e (round_mono binary64 a c n d C D h) in
-    let p = plain_of (round binary64 false a c) hi (round_clear a c C) l q in
+    let p = plain_of (round binary64 false a c) hi (round_clear binary64 a c) l q in
     (p, under_of (round binary64 false a c) hi p q l)
 
 -- ---- the operations on plain values
@@ -113,34 +94,3 @@ above_num nan q h = absurd q
 above_num (inf s) q h = absurd q
 above_num (fin true n d) q h = absurd q
 above_num (fin false n d) q h = let l = ltb→lt (0 * 1 * down d) (n * up d * 1) h in omega arith
-
--- ---- fractions
-
--- ---- two knots: the scalars A and B, D apart, and the radii R and U, W apart
-record Knots (A B D R U W : Float) : Type 0 where
-  first : T (plain A)
-  second : T (plain B)
-  from : T (plain R)
-  to : T (plain U)
-  order : Under A B
-  step : T (plain D)
-  step_above : T (lt zero64 D)
-  step_is : B ⊖ A ≡ D
-  rise : T (plain W)
-  rise_is : U ⊖ R ≡ W
-  rise_exact : round binary64 false (num W) (den W) ≡ W
-  sum_is : R ⊕ W ≡ U
-  most : Under U top
-
-module _ (A B D R U W : Float) (k : Knots A B D R U W) (s : Float) (p : T (plain s)) (lo : Under A s) (hi : Under s B) where
-  abbrev d : Float
-  d = s ⊖ A
-
-  abbrev t : Float
-  t = d ⊘ D
-
--- ---- s is above A and at most B, by the tests
-
--- ---- from 0 to 0.7
-
--- ---- the four pairs

@@ -17,15 +17,6 @@ unfolding extent_questions
 extent_numbered e = (omega arith, (omega arith, (omega arith, tt)))
 
 module _ {A : Type 0} (a : A) where
-  -- what one question's answer says of it
-  pub ask_ok : (b : Bool) (r : Refusal) (d : A) → cond b (Ok a) (Err r) ≡ Ok d → b ≡ true
-  ask_ok true r d h = refl
-  ask_ok false r d h = cc
-
-  pub ask_err : (b : Bool) (q r : Refusal) → cond b (Ok a) (Err q) ≡ Err r → (b ≡ false) × (r ≡ q)
-  ask_err true q r h = cc
-  ask_err false q r h = (refl, cc)
-
   -- the first no, by the answers up to it
   module _ (e : Extent) where
     abbrev pub asked : Result A Refusal

@@ -12,8 +12,8 @@ const KERNEL_COEFFICIENT: f64 = 16.8172606265625;
 
 const HEIGHT_SCALE: f64 = 1.365909936;
 
-// The compact quartic kernel at u, about a centre and with a radius; on Z with the height's cosine. A flag
-// says which: two functions would repeat all but the last test.
+// The compact quartic kernel at u, about a centre and with a radius; on Z with the height's cosine.
+// A flag, as the public signature has it: a function for Z would call this one and multiply.
 pub fn compact_quartic_kernel(u: f64, center: f64, radius: f64, z: bool) -> f64
     ensures { result ≡ kernel_of u center radius z }
 {

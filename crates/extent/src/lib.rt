@@ -8,7 +8,7 @@ pub use kernel::{ZERO_FIELD_THRESHOLD, compact_quartic_kernel, shaped, shaping_e
 pub use radius::{extent_radius, read_extent};
 
 // The three components of an extent.
-#[derive(Clone, Copy)]
+#[derive(Clone, Copy, Default)]
 pub struct Extent {
     pub x: f64,
     pub y: f64,

@@ -1,12 +1,13 @@
 // Reading an extent: its mean and its radius.
-ghost use Rattle.std.specs.Prelude.{◌≡◌, if◌then◌else◌};
+ghost use Rattle.std.specs.Prelude.{◌≡◌, position};
+ghost use Rattle.std.specs.Float.Ieee.{le};
 ghost use Rattle.layout.specs.Questions.{first_no};
 ghost use Rattle.layout.specs.Refusals.{answer_by};
 ghost use Rattle.extent.specs.Extent.{component, quantised, mean_of, radius_between, radius_of, extent_questions, read_of};
 
 use crate::{Extent, Reading};
 use doubles::{SHIFT, clamp, is_between};
-use layout::Refusal;
+use layout::{Refusal, ask};
 
 const Q: f64 = 32768.0;
 
@@ -46,6 +47,7 @@ const KNOTS: [Knot; 5] = [
 fn quantise(v: f64) -> u64
     ensures { result ≡ quantised v }
 {
+    // 0 for the others, as `quantised` says; read_extent has refused them before.
     if !is_between(0.0, 1.0, v) {
         return 0;
     }
@@ -61,21 +63,24 @@ fn between(a: Knot, b: Knot, scalar: f64) -> f64
     a.radius + t * (b.radius - a.radius)
 }
 
+// The place of the first knot that s does not exceed.
+fn first_from(knots: &[Knot], s: f64) -> Option<usize>
+    ensures { result ≡ position (λ k. le s k.scalar) knots.now }
+{
+    knots.iter().position(|k| s <= k.scalar)
+}
+
 // The five-knot transfer from a scalar to a radius.
 pub fn extent_radius(scalar: f64) -> f64
     ensures { result ≡ radius_of scalar }
 {
     let s = clamp(scalar, 0.0, 1.0);
-    if s <= KNOTS[0].scalar {
-        return KNOTS[0].radius;
+    // By place: with pairs of knots both ends and a NaN would need arms of their own.
+    match first_from(&KNOTS, s) {
+        Some(0) => KNOTS[0].radius,
+        Some(i) => between(KNOTS[i - 1], KNOTS[i], s),
+        None => KNOTS[4].radius,
     }
-    // By index: of an iterator over pairs of knots the proof did not close.
-    for i in 0..4 {
-        if s <= KNOTS[i + 1].scalar {
-            return between(KNOTS[i], KNOTS[i + 1], s);
-        }
-    }
-    KNOTS[4].radius
 }
 
 // The mean of the three components, 0 to 32767.
@@ -85,24 +90,20 @@ fn mean_of(e: Extent) -> u64
     (quantise(e.x) + quantise(e.y) + quantise(e.z)) / 3
 }
 
-// Whether a component is finite and from 0 to 1, or the refusal of one that is not.
-fn ask(v: f64, no: Refusal) -> Result<(), Refusal>
-    ensures { result ≡ (if component v then Ok tt else Err no) }
+// Whether a component is finite and from 0 to 1.
+fn is_component(v: f64) -> bool
+    ensures { result ≡ component v }
 {
-    if is_between(0.0, 1.0, v) {
-        Ok(())
-    } else {
-        Err(no)
-    }
+    is_between(0.0, 1.0, v)
 }
 
 // The first of questions 7 (x), 18 (y) and 19 (z) that has a no.
 fn extent_no(e: Extent) -> Result<(), Refusal>
     ensures { result ≡ answer_by (first_no (extent_questions e)) tt }
 {
-    ask(e.x, Refusal::ExtentX)?;
-    ask(e.y, Refusal::ExtentY)?;
-    ask(e.z, Refusal::ExtentZ)
+    ask(is_component(e.x), Refusal::ExtentX)?;
+    ask(is_component(e.y), Refusal::ExtentY)?;
+    ask(is_component(e.z), Refusal::ExtentZ)
 }
 
 // An extent's mean and its radius, or the first question that refuses it.

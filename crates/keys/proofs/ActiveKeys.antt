@@ -9,8 +9,9 @@ use lib.ListN.{length, get_or, take, length-map}
 use lib.Seq.{slice, length-slice}
 use Rattle.lists.specs.Lists.{bit}
 use Rattle.std.specs.List.{filter}
+use Rattle.std.proofs.lemmas.List.{take-map}
 use Rattle.lists.proofs.Chunks.{slice_front}
-use Rattle.lists.proofs.Takes.{take_min, map_take}
+use Rattle.lists.proofs.Takes.{take_min}
 use Rattle.layout.specs.Channels.{channel_name, active}
 use Rattle.layout.specs.Room.{active_in}
 use Rattle.keys.specs.InKey.{layout_in, room_in}
@@ -38,7 +39,7 @@ active_in_lem key long =
     let u = get_or key 152 0 in
     let cs = (layout_in key).channels in
     let e : map active (take u cs) ≡ map is_one (take u (slice 24 48 key)) =
-    map_take active u cs ∙ ap (take u) (actives_are key long) ∙ sym (map_take is_one u (slice 24 48 key)) in
+    sym (take-map active u cs) ∙ ap (take u) (actives_are key long) ∙ take-map is_one u (slice 24 48 key) in
     ap (λ (v : List ℕ). length (filter is_one v)) (sym (slice_front key 24 (min u 24) 24 (omega arith)) ∙ take_min u 24 (slice 24 48 key) (omega (arith, length-slice 24 48 key (omega (arith, long)))))
     ∙ sym (alike_many active is_one (take u cs) (take u (slice 24 48 key)) e)
     ∙ sym (length-map (filter active (take u cs)) channel_name)

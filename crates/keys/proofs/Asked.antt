@@ -2,7 +2,7 @@
 use Prim.Native.Nat.{ℕ, ◌+◌, ◌*◌, ◌≤◌}
 use mathlib.Core.Path.{◌≡◌, refl, sym, ap, ap₂, ◌∙◌, subst}
 use mathlib.Core.Bool.{Bool, true, false, ◌&&◌, cond}
-use mathlib.Core.List.{List, map}
+use mathlib.Core.List.{List, map, map-map}
 use native.Mathlib.Nat.{zero-add}
 use native.Mathlib.Omega.{arith}
 use borrow.Author.Tests.{leb-true}
@@ -12,9 +12,10 @@ use lib.ListN.{length, take, length-map, length-take}
 use lib.Seq.{slice, length-take-le}
 use Rattle.lists.specs.Lists.{elem, all_distinct, chunks, total, bit, zip_with}
 use Rattle.std.specs.List.{list_all, list_any, filter}
+use Rattle.std.proofs.lemmas.List.{take-map}
+use Rattle.std.proofs.lemmas.Bool.{and_parts}
 use Rattle.lists.proofs.Chunks.{chunks_take, slice_front}
-use Rattle.lists.proofs.Takes.{map_take}
-use Rattle.lists.proofs.Zips.{map-map, map-id, zip_take, zip_map}
+use Rattle.lists.proofs.Zips.{map-id, zip_take, zip_map}
 use Rattle.layout.specs.declared.Layout.{Layout}
 use Rattle.layout.specs.declared.Channel.{Channel}
 use Rattle.layout.specs.Name.{valid_name}
@@ -27,19 +28,22 @@ use Rattle.layout.proofs.TopologyCut.{with_x, with_y, with_z}
 use Rattle.layout.proofs.TopologyStarts.{layers_z}
 use Rattle.layout.proofs.QuestionsAccepted.{yes1}
 use Rattle.layout.proofs.QuestionsOrdered.{layers_ordered_lem}
-use Rattle.layout.proofs.QuestionsCounted.{both, within, total_most}
+use Rattle.layout.proofs.QuestionsCounted.{within, total_most}
 use Rattle.keys.specs.Keys.{flag_number}
 use Rattle.keys.specs.Steps.{packed_numbers, z_pattern, y_pattern, x_pattern}
 use Rattle.keys.specs.InKey.{channel_in, layer_in, row_in, anchor_in, layout_in}
 use Rattle.keys.proofs.KeyReads.{Reads, key_reads}
 use Rattle.keys.proofs.Back.{back, ordered_back, chunks_back}
 
--- ---- a part of a key, by the entries that it was packed from
-part_in : {A : Type 0} (g : ℕ → ℕ → A) (f h : A → ℕ) (key : List ℕ) (a b m most : ℕ) (v : List A) → m ≡ length v → m ≤ most → slice a (a + length v) key ≡ map f v → slice b (b + length v) key ≡ map h v → take m (zip_with g (slice a (a + most) key) (slice b (b + most) key)) ≡ map (λ (x : A). g (f x) (h x)) v
-part_in g f h key a b m most v e l p q =
-    zip_take g m (slice a (a + most) key) (slice b (b + most) key)
-    ∙ ap₂ (zip_with g) (slice_front key a m most l ∙ ap (λ (n : ℕ). slice a (a + n) key) e ∙ p) (slice_front key b m most l ∙ ap (λ (n : ℕ). slice b (b + n) key) e ∙ q)
-    ∙ zip_map g f h v
+-- ---- a part of a key, by the entries that it was packed from: the first t of them all
+part_in : {A : Type 0} (g : ℕ → ℕ → A) (f h : A → ℕ) (key : List ℕ) (a b t most : ℕ) (all : List A) → length all ≡ most → t ≤ most →
+    let v = take t all in
+    slice a (a + length v) key ≡ map f v → slice b (b + length v) key ≡ map h v → take t (zip_with g (slice a (a + most) key) (slice b (b + most) key)) ≡ map (λ (x : A). g (f x) (h x)) v
+part_in g f h key a b t most all n l p q =
+    let e = sym (length-take-le t all (omega (arith, n, l))) in
+    zip_take g t (slice a (a + most) key) (slice b (b + most) key)
+    ∙ ap₂ (zip_with g) (slice_front key a t most l ∙ ap (λ (n : ℕ). slice a (a + n) key) e ∙ p) (slice_front key b t most l ∙ ap (λ (n : ℕ). slice b (b + n) key) e ∙ q)
+    ∙ zip_map g f h (take t all)
 
 channel_back : (c : Channel) → channel_in (channel_name c) (flag_number c) ≡ c
 channel_back c = go c.enabled c.lfe
@@ -59,8 +63,8 @@ flat5 l =
     ap₂ ◌&&◌ (ap ordered (layers_z (used_layers l) (rows_of l.rows l.anchors)))
     (layers_ordered_lem (used_layers l) l.rows l.anchors
     ∙ ap₂ (λ (p q : List (List Float)). list_all ordered p && list_all ordered q)
-    (sym (chunks_take cs (total cs) (map row_y l.rows) (omega arith)) ∙ ap (chunks cs) (sym (map_take row_y (total cs) l.rows)))
-    (sym (chunks_take ns (total ns) (map anchor_x l.anchors) (omega arith)) ∙ ap (chunks ns) (sym (map_take anchor_x (total ns) l.anchors))))
+    (sym (chunks_take cs (total cs) (map row_y l.rows) (omega arith)) ∙ ap (chunks cs) (take-map row_y (total cs) l.rows))
+    (sym (chunks_take ns (total ns) (map anchor_x l.anchors) (omega arith)) ∙ ap (chunks ns) (take-map anchor_x (total ns) l.anchors)))
 
 -- ---- the layout in the key of a layout
 module _ (l : Layout) (s : Sized l) (e : ℕ) where
@@ -84,58 +88,50 @@ module _ (l : Layout) (s : Sized l) (e : ℕ) where
   pub channels_are : l.used ≤ 24 → channels_of u ≡ channels_of l
   unfolding layout_in
   channels_are few =
-      let n : length (channels_of l) ≡ l.used = length-take-le l.used l.channels (omega (arith, s.channels, few)) in
       ap (λ (m : ℕ). take m u.channels) reads.used
-      ∙ part_in channel_in channel_name flag_number key 0 24 l.used 24 (channels_of l) (sym n) few (ap (λ (m : ℕ). slice 0 m key) (zero-add (length (channels_of l))) ∙ reads.names) reads.flags
+      ∙ part_in channel_in channel_name flag_number key 0 24 l.used 24 l.channels s.channels few (ap (λ (m : ℕ). slice 0 m key) (zero-add (length (channels_of l))) ∙ reads.names) reads.flags
       ∙ map-id (λ (x : Channel). channel_in (channel_name x) (flag_number x)) channel_back (channels_of l)
 
   module _ (shallow : l.depth ≤ 4) where
     pub layers_are : used_layers u ≡ map (with_z back) (used_layers l)
     unfolding layout_in
-    layers_are =
-        let n : length (used_layers l) ≡ l.depth = length-take-le l.depth l.layers (omega (arith, s.layers, shallow)) in
-        ap (λ (m : ℕ). take m u.layers) reads.depth
-        ∙ part_in layer_in layer_count z_pattern key 48 100 l.depth 4 (used_layers l) (sym n) shallow reads.layer_counts reads.zs
+    layers_are = ap (λ (m : ℕ). take m u.layers) reads.depth ∙ part_in layer_in layer_count z_pattern key 48 100 l.depth 4 l.layers s.layers shallow reads.layer_counts reads.zs
 
     counts_are : map layer_count (used_layers u) ≡ map layer_count (used_layers l)
-    counts_are = ap (map layer_count) layers_are ∙ sym (map-map (with_z back) layer_count (used_layers l))
+    counts_are = ap (map layer_count) layers_are ∙ map-map layer_count (with_z back) (used_layers l)
 
     module _ (few_rows : total (map layer_count (used_layers l)) ≤ 24) where
       pub rows_are : used_rows u ≡ map (with_y back) (used_rows l)
       unfolding layout_in
       rows_are =
-          let t = total (map layer_count (used_layers l)) in
-          let n : length (used_rows l) ≡ t = length-take-le t l.rows (omega (arith, s.rows, few_rows)) in
           ap (λ (v : List ℕ). take (total v) u.rows) counts_are
-          ∙ part_in row_in row_count y_pattern key 52 104 t 24 (used_rows l) (sym n) few_rows reads.row_counts reads.ys
+          ∙ part_in row_in row_count y_pattern key 52 104 (total (map layer_count (used_layers l))) 24 l.rows s.rows few_rows reads.row_counts reads.ys
 
       row_counts_are : map row_count (used_rows u) ≡ map row_count (used_rows l)
-      row_counts_are = ap (map row_count) rows_are ∙ sym (map-map (with_y back) row_count (used_rows l))
+      row_counts_are = ap (map row_count) rows_are ∙ map-map row_count (with_y back) (used_rows l)
 
       module _ (few_anchors : total (map row_count (used_rows l)) ≤ 24) where
         pub anchors_are : used_anchors u ≡ map (with_x back) (used_anchors l)
         unfolding layout_in
         anchors_are =
-            let t = total (map row_count (used_rows l)) in
-            let n : length (used_anchors l) ≡ t = length-take-le t l.anchors (omega (arith, s.anchors, few_anchors)) in
             ap (λ (v : List ℕ). take (total v) u.anchors) row_counts_are
-            ∙ part_in anchor_in anchor_name x_pattern key 76 128 t 24 (used_anchors l) (sym n) few_anchors reads.anchor_names reads.xs
+            ∙ part_in anchor_in anchor_name x_pattern key 76 128 (total (map row_count (used_rows l))) 24 l.anchors s.anchors few_anchors reads.anchor_names reads.xs
 
         names_are : map anchor_name (used_anchors u) ≡ map anchor_name (used_anchors l)
-        names_are = ap (map anchor_name) anchors_are ∙ sym (map-map (with_x back) anchor_name (used_anchors l))
+        names_are = ap (map anchor_name) anchors_are ∙ map-map anchor_name (with_x back) (used_anchors l)
 
         module _ (zs : T (list_all (fits binary64) (map layer_z l.layers))) (ys : T (list_all (fits binary64) (map row_y l.rows))) (xs : T (list_all (fits binary64) (map anchor_x l.anchors))) where
           five : question5 u ≡ question5 l
           five =
               flat5 u
               ∙ ap₂ ◌&&◌
-              (ap ordered (ap (map layer_z) layers_are ∙ sym (map-map (with_z back) layer_z (used_layers l)) ∙ map-map layer_z back (used_layers l))
-              ∙ ordered_back (map layer_z (used_layers l)) (subst (λ (v : List Float). T (list_all (fits binary64) v)) (sym (map_take layer_z l.depth l.layers)) (all_taken (fits binary64) l.depth (map layer_z l.layers) zs)))
+              (ap ordered (ap (map layer_z) layers_are ∙ map-map layer_z (with_z back) (used_layers l) ∙ sym (map-map back layer_z (used_layers l)))
+              ∙ ordered_back (map layer_z (used_layers l)) (subst (λ (v : List Float). T (list_all (fits binary64) v)) (take-map layer_z l.depth l.layers) (all_taken (fits binary64) l.depth (map layer_z l.layers) zs)))
               (ap₂ ◌&&◌
-              (ap₂ (λ (cs : List ℕ) (v : List Float). list_all ordered (chunks cs v)) counts_are (ap (map row_y) rows_are ∙ sym (map-map (with_y back) row_y (used_rows l)) ∙ map-map row_y back (used_rows l))
-              ∙ chunks_back (map layer_count (used_layers l)) (map row_y (used_rows l)) (subst (λ (v : List Float). T (list_all (fits binary64) v)) (sym (map_take row_y (total (map layer_count (used_layers l))) l.rows)) (all_taken (fits binary64) (total (map layer_count (used_layers l))) (map row_y l.rows) ys)))
-              (ap₂ (λ (cs : List ℕ) (v : List Float). list_all ordered (chunks cs v)) row_counts_are (ap (map anchor_x) anchors_are ∙ sym (map-map (with_x back) anchor_x (used_anchors l)) ∙ map-map anchor_x back (used_anchors l))
-              ∙ chunks_back (map row_count (used_rows l)) (map anchor_x (used_anchors l)) (subst (λ (v : List Float). T (list_all (fits binary64) v)) (sym (map_take anchor_x (total (map row_count (used_rows l))) l.anchors)) (all_taken (fits binary64) (total (map row_count (used_rows l))) (map anchor_x l.anchors) xs))))
+              (ap₂ (λ (cs : List ℕ) (v : List Float). list_all ordered (chunks cs v)) counts_are (ap (map row_y) rows_are ∙ map-map row_y (with_y back) (used_rows l) ∙ sym (map-map back row_y (used_rows l)))
+              ∙ chunks_back (map layer_count (used_layers l)) (map row_y (used_rows l)) (subst (λ (v : List Float). T (list_all (fits binary64) v)) (take-map row_y (total (map layer_count (used_layers l))) l.rows) (all_taken (fits binary64) (total (map layer_count (used_layers l))) (map row_y l.rows) ys)))
+              (ap₂ (λ (cs : List ℕ) (v : List Float). list_all ordered (chunks cs v)) row_counts_are (ap (map anchor_x) anchors_are ∙ map-map anchor_x (with_x back) (used_anchors l) ∙ sym (map-map back anchor_x (used_anchors l)))
+              ∙ chunks_back (map row_count (used_rows l)) (map anchor_x (used_anchors l)) (subst (λ (v : List Float). T (list_all (fits binary64) v)) (take-map anchor_x (total (map row_count (used_rows l))) l.anchors) (all_taken (fits binary64) (total (map row_count (used_rows l))) (map anchor_x l.anchors) xs))))
               ∙ sym (flat5 l)
 
 -- ---- the six answers
@@ -199,8 +195,8 @@ module _ (l : Layout) (s : Sized l) (zs : T (list_all (fits binary64) (map layer
   yes4 : question2 l ≡ true → question4 l ≡ true → (total cs ≤ 24) × (total ns ≤ 24)
   unfolding question4
   yes4 q f =
-      let a = both (list_all (from_to 1 6) cs && list_all (leb 1) ns) (leb (total ns) 24) f in
-      let b = both (list_all (from_to 1 6) cs) (list_all (leb 1) ns) a.0 in
+      let a = and_parts (list_all (from_to 1 6) cs && list_all (leb 1) ns) (leb (total ns) 24) f in
+      let b = and_parts (list_all (from_to 1 6) cs) (list_all (leb 1) ns) a.0 in
       (rows_few (few_layers_lem q) b.0, leb-true (total ns) 24 a.1)
 
   pub asked_same : first_no (layout_questions v) ≡ first_no (layout_questions l)

@@ -14,10 +14,9 @@ use Rattle.doubles.proofs.AddZero.{add_zero_same, zero_is}
 use Rattle.doubles.proofs.Alike.{Alike, zeros, signed, alike_path, blind, lt_same, same_lt}
 use Rattle.lists.specs.Lists.{chain_from, chunks}
 use Rattle.std.specs.List.{list_all}
-use Rattle.lists.proofs.Takes.{map_take}
+use Rattle.std.proofs.lemmas.List.{take-map, drop-map}
 use Rattle.layout.specs.Questions.{in_room, ordered}
 use Rattle.layout.proofs.Coordinates.{all_taken, all_dropped}
-use Rattle.layout.proofs.TopologyLists.{map_drop}
 use Rattle.keys.specs.Keys.{pattern}
 use Rattle.keys.specs.InKey.{double}
 
@@ -70,5 +69,5 @@ ordered_back (x ∷ xs) h =
 pub chunks_back : (cs : List ℕ) (xs : List Float) → T (list_all (fits binary64) xs) → list_all ordered (chunks cs (map back xs)) ≡ list_all ordered (chunks cs xs)
 chunks_back [] xs h = refl
 chunks_back (c ∷ cs) xs h =
-    ap₂ ◌&&◌ (ap ordered (sym (map_take back c xs)) ∙ ordered_back (take c xs) (all_taken (fits binary64) c xs h))
-    (ap (λ (v : List Float). list_all ordered (chunks cs v)) (sym (map_drop back c xs)) ∙ chunks_back cs (drop c xs) (all_dropped (fits binary64) c xs h))
+    ap₂ ◌&&◌ (ap ordered (take-map back c xs) ∙ ordered_back (take c xs) (all_taken (fits binary64) c xs h))
+    (ap (λ (v : List Float). list_all ordered (chunks cs v)) (drop-map back c xs) ∙ chunks_back cs (drop c xs) (all_dropped (fits binary64) c xs h))

@@ -84,7 +84,7 @@ module _ {A : Type 0} (r : A → A → Bool) where
           yes_and (s x y) (all_same s xs ys) (closes x y u.0 v.0 (cc) c.0) (parted_same xs ys u.1 v.1 (ap (drop 1) p) (ap (drop 1) q) c.1)
 
 -- ---- a channel is known by its name and its flags
-bit_most : (b : Bool) → bit b ≤ 1
+pub bit_most : (b : Bool) → bit b ≤ 1
 bit_most true = omega arith
 bit_most false = omega arith
 

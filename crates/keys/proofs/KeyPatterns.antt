@@ -3,6 +3,7 @@ use Prim.Native.Nat.{ℕ, zero, suc, ◌*◌}
 use mathlib.Core.Path.{◌≡◌, refl, sym, ap, ◌∙◌, subst}
 use mathlib.Core.Bool.{Bool, true, false, ◌&&◌, beq, ◌||◌}
 use mathlib.Core.Logic.{◌⊎◌, inl, inr, ⊎_elim}
+use Rattle.doubles.proofs.Alike.{beq→eq}
 use native.Mathlib.Nat.{mul-pos}
 use native.Mathlib.Omega.{arith}
 use lib.IntN.{ℤ, pos}
@@ -12,9 +13,10 @@ use lib.Ieee.Bits.{of_bits-to_bits}
 use lib.Ieee.Fits.{add-fits, down_pos}
 use lib.Ieee.Scale.{finite}
 use mir.Facts.{and_yes, or_yes}
+use Rattle.std.proofs.lemmas.Float.{eq_flip, eq_trans}
 use Rattle.doubles.specs.Arithmetic.{◌⊕◌, zero64}
 use Rattle.doubles.proofs.AddZero.{plus_zero, add_zero_same, zero_is}
-use Rattle.layout.proofs.SameNumbers.{beq→eq, eq_refl, eq_sym, eq_trans}
+use Rattle.layout.proofs.SameNumbers.{eq_refl}
 use Rattle.keys.specs.Keys.{pattern}
 
 -- ---- equal as numbers, then equal patterns
@@ -62,4 +64,4 @@ plus_same (fin true zero e) h f = subst (λ (x : Float). T (eq (x ⊕ zero64) x)
 pub pattern_eq : (x y : Float) → T (fits binary64 x) → T (finite x) → T (fits binary64 y) → T (finite y) → pattern x ≡ pattern y → T (eq x y)
 pattern_eq x y hx fx hy fy q =
     let e : x ⊕ zero64 ≡ y ⊕ zero64 = sym (of_bits-to_bits binary64 (x ⊕ zero64) (add-fits binary64 x zero64)) ∙ ap (of_bits binary64) q ∙ of_bits-to_bits binary64 (y ⊕ zero64) (add-fits binary64 y zero64) in
-    eq_trans x (y ⊕ zero64) y (rw e at (eq_sym (x ⊕ zero64) x (plus_same x hx fx))) (plus_same y hy fy)
+    eq_trans x (y ⊕ zero64) y (rw e at (eq_flip (x ⊕ zero64) x (plus_same x hx fx))) (plus_same y hy fy)

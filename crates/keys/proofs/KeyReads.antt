@@ -6,8 +6,8 @@ use native.Mathlib.Nat.{zero-add}
 use native.Mathlib.Omega.{arith}
 use lib.ListN.{length, take, drop, get_or, replicate, length-map, length-take}
 use lib.Seq.{slice, take-append-le, drop-append-add, take_all, get_or-append-add}
+use Rattle.std.proofs.lemmas.List.{drop-take}
 use Rattle.lists.specs.Lists.{total, flatten}
-use Rattle.lists.proofs.Chunks.{slice_take}
 use Rattle.layout.specs.declared.Layout.{Layout}
 use Rattle.layout.specs.Channels.{channels_of, channel_name}
 use Rattle.layout.specs.Topology.{used_layers, used_rows, used_anchors, layer_count, row_count, anchor_name}
@@ -21,7 +21,7 @@ read_part [] k at n h e r = absurd (omega arith)
 read_part (p ∷ ps) zero at n h e r = rw (e, zero-add) (take-append-le n p (flatten ps) r)
 read_part (p ∷ ps) (suc k) at n h e r =
     let a = total (map length (take k ps)) in
-    rw e (slice_take (length p + a) n (p ++ flatten ps) ∙ ap (take n) (drop-append-add p (flatten ps) a) ∙ sym (slice_take a n (flatten ps)) ∙ read_part ps k a n (omega arith) refl r)
+    rw e (drop-take (length p + a) n (p ++ flatten ps) ∙ ap (take n) (drop-append-add p (flatten ps) a) ∙ sym (drop-take a n (flatten ps)) ∙ read_part ps k a n (omega arith) refl r)
 
 front : (m : ℕ) (xs : List ℕ) → take (length xs) (filled_to m xs) ≡ xs
 front m xs = take-append-le (length xs) xs (drop (length xs) (replicate m 0)) (omega arith) ∙ take_all (length xs) xs (omega arith)

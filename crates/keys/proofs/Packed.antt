@@ -1,8 +1,7 @@
 -- The key of an accepted layout is that of its room.
 use Prim.Native.Nat.{ℕ}
 use mathlib.Core.Path.{◌≡◌, sym, ap, ◌∙◌}
-use mathlib.Core.List.{List, map}
-use Rattle.lists.proofs.Zips.{map-map}
+use mathlib.Core.List.{List, map, map-map}
 use Rattle.layout.specs.declared.Layout.{Layout}
 use Rattle.layout.specs.Topology.{TopologyRow, TopologyLayer, topology_of, rows_of, used_layers, used_rows, layer_z, row_y}
 use Rattle.layout.specs.Questions.{topology_y, topology_z}
@@ -19,14 +18,14 @@ module _ (l : Layout) (s : Sized l) (a : Accepted l) where
   rs = rows_of l.rows l.anchors
 
   zs : map (λ (y : TopologyLayer). pattern (topology_z y)) (topology_of l) ≡ map z_pattern (used_layers l)
-  zs = map-map topology_z pattern (topology_of l) ∙ ap (map pattern) (layers_z (used_layers l) rs) ∙ sym (map-map layer_z pattern (used_layers l))
+  zs = sym (map-map pattern topology_z (topology_of l)) ∙ ap (map pattern) (layers_z (used_layers l) rs) ∙ map-map pattern layer_z (used_layers l)
 
   ys : map (λ (w : TopologyRow). pattern (topology_y w)) (rows_in (room_of l)) ≡ map y_pattern (used_rows l)
   ys =
       ap (map (λ (w : TopologyRow). pattern (topology_y w))) (rows_are l)
-      ∙ map-map topology_y pattern (rows_of (used_rows l) l.anchors)
+      ∙ sym (map-map pattern topology_y (rows_of (used_rows l) l.anchors))
       ∙ ap (map pattern) (rows_y (used_rows l) l.anchors)
-      ∙ sym (map-map row_y pattern (used_rows l))
+      ∙ map-map pattern row_y (used_rows l)
 
   pub packed_room : (e : ℕ) → key_numbers (room_of l) e ≡ packed_numbers l e
   unfolding key_numbers packed_numbers

@@ -75,7 +75,7 @@ module _ (r : Room) where
   unfolding key_numbers
   key_is e = eight_joined names flags layer_counts row_counts anchor_names zs ys xs (numbers e)
 
-filled_long : {A : Type 0} (f : A → ℕ) (xs : List A) (n : ℕ) → length xs ≤ n → length (filled_to n (map f xs)) ≡ n
+pub filled_long : {A : Type 0} (f : A → ℕ) (xs : List A) (n : ℕ) → length xs ≤ n → length (filled_to n (map f xs)) ≡ n
 filled_long f xs n h = length_filled n (map f xs) (rw (length-map xs f) h)
 
 module _ (r : Room) (s : SoundRoom r) (e : ℕ) where

@@ -6,13 +6,12 @@ use native.Mathlib.Omega.{arith}
 use lib.ListN.{length, drop, get_or}
 use lib.Seq.{slice, length-slice, get_or-take, get_or-drop}
 use Rattle.lists.specs.Lists.{zip_with}
-use Rattle.lists.proofs.Chunks.{slice_take}
-use Rattle.std.proofs.lemmas.List.{ext_get_or}
+use Rattle.std.proofs.lemmas.List.{ext_get_or, drop-take}
 use Rattle.lists.proofs.Zips.{zip_length, zip_at}
 
 module _ {A : Type 0} (g : ℕ → ℕ → A) where
   slice_at : (key : List ℕ) (a n i : ℕ) → i < n → get_or (slice a (a + n) key) i 0 ≡ get_or key (a + i) 0
-  slice_at key a n i h = ap (λ (l : List ℕ). get_or l i 0) (slice_take a n key) ∙ get_or-take n (drop a key) i 0 h ∙ get_or-drop a key i 0
+  slice_at key a n i h = ap (λ (l : List ℕ). get_or l i 0) (drop-take a n key) ∙ get_or-take n (drop a key) i 0 h ∙ get_or-drop a key i 0
 
   module _ (key : List ℕ) (a b n : ℕ) (h : a + n ≤ length key) (k : b + n ≤ length key) where
     as_long : length (slice a (a + n) key) ≡ length (slice b (b + n) key)

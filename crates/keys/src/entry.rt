@@ -10,6 +10,7 @@ ghost use Rattle.keys.specs.InKey.{channel_in, layer_in, row_in, anchor_in};
 use doubles::of_bits;
 use layout::{Anchor, Channel, Layer, Row};
 
+// A trait of its own: entries and tuples are other crates' types, so that From cannot be written here.
 pub(crate) trait Entry: Copy {
     ghost first: { Self → ℕ };
 
@@ -54,8 +55,8 @@ impl Entry for Channel {
     fn of(a: u64, b: u64) -> Channel {
         Channel {
             name: a,
-            enabled: (b == 1) | (b == 3),
-            lfe: (b == 2) | (b == 3),
+            enabled: matches!(b, 1 | 3),
+            lfe: matches!(b, 2 | 3),
         }
     }
 }

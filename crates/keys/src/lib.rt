@@ -1,5 +1,5 @@
 // Keys: a layout and an epoch packed into 156 numbers, in one way only, so that equal keys are equal
-// numbers; and the layout in a key.
+// numbers; and the layout in a key. Numbers, and no struct: keys are compared bit by bit and kept side by side.
 #![tactic(auto)]
 
 mod active;

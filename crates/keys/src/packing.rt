@@ -14,6 +14,7 @@ fn write<E: Entry>(v: &[E], a: usize, b: usize, key: &mut [u64; 156])
     requires { (a + length v.now ≤ b) × (b + length v.now ≤ 156) }
     ensures { key.new ≡ two_parts a (map E.first v.now) b (map E.second v.now) (length v.now) key.old }
 {
+    // Two offsets into one array: two slices to write to would have to be split off it at each call.
     for (i, e) in v.iter().enumerate() {
         let (first, second) = e.numbers();
         key[a + i] = first;
@@ -21,23 +22,23 @@ fn write<E: Entry>(v: &[E], a: usize, b: usize, key: &mut [u64; 156])
     }
 }
 
-// Packs the layout and the epoch.
-pub fn pack(l: Layout, epoch: u64) -> [u64; 156]
-    ensures { result ≡ packed_numbers l epoch }
+// Packs the layout and the epoch. Into a lent array: to hand one back copies it, which takes 146
+// instructions more a call.
+pub fn pack(l: Layout, epoch: u64, out: &mut [u64; 156])
+    ensures { out.new ≡ packed_numbers l epoch }
 {
     let layers = &l.layers[..covered_layers(l.depth)];
-    // Counts that are fields of the entries: `reach` takes plain ones.
+    // Not row_total and anchor_total, which build all starts first; `reach` takes counts that are no fields.
     let row_count = layers.iter().fold(0, |n, y| next_start(n, y.count));
     let rows = &l.rows[..row_count];
     let anchor_count = rows.iter().fold(0, |n, r| next_start(n, r.count));
     let anchors = &l.anchors[..anchor_count];
-    let mut key = [0; 156];
-    write(&l.channels[..covered(l.used)], 0, FLAGS, &mut key);
-    write(layers, LAYER_COUNTS, ZS, &mut key);
-    write(rows, ROW_COUNTS, YS, &mut key);
-    write(anchors, ANCHOR_NAMES, XS, &mut key);
-    key[USED] = l.used as u64;
-    key[DEPTH] = l.depth as u64;
-    key[EPOCH] = epoch;
-    key
+    *out = [0; 156];
+    write(&l.channels[..covered(l.used)], 0, FLAGS, out);
+    write(layers, LAYER_COUNTS, ZS, out);
+    write(rows, ROW_COUNTS, YS, out);
+    write(anchors, ANCHOR_NAMES, XS, out);
+    out[USED] = l.used as u64;
+    out[DEPTH] = l.depth as u64;
+    out[EPOCH] = epoch;
 }

@@ -13,6 +13,7 @@ fn entries_in<E: Entry, const N: usize>(key: &[u64; 156], a: usize, b: usize) ->
     requires { (a + N ≤ 156) × (b + N ≤ 156) }
     ensures { result ≡ zip_with E.made (slice a (a + N) key.now) (slice b (b + N) key.now) }
 {
+    // By offsets: two slices would take a line each, and one index would read them all the same.
     std::array::from_fn(|i| E::of(key[a + i], key[b + i]))
 }
 

@@ -1,6 +1,5 @@
 pub mod ActiveNames
 pub mod Coordinates
-pub mod LessThan
 pub mod QuestionLists
 pub mod QuestionsAccepted
 pub mod QuestionsCounted

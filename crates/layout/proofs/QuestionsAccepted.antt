@@ -11,6 +11,8 @@ use lib.Seq.{slice, get_or-take, length-take-le}
 use borrow.Author.Tests.{leb-true, eqb-false, not-true}
 use Rattle.lists.specs.Lists.{elem, all_distinct, total}
 use Rattle.std.specs.List.{list_all}
+use Rattle.std.proofs.lemmas.Bool.{and_parts}
+use Rattle.std.proofs.lemmas.Float.{T_from_true}
 use Rattle.layout.specs.declared.Layout.{Layout}
 use Rattle.layout.specs.Name.{valid_name}
 use Rattle.layout.specs.Channels.{channels_of, channel_name, active, active_names, active_count}
@@ -22,8 +24,8 @@ use Rattle.layout.specs.Steps.Accepted.{Accepted}
 use Rattle.layout.proofs.TopologyStarts.{start_sum}
 use Rattle.layout.proofs.StartsFrom.{starts_length}
 use Rattle.layout.proofs.ActiveNames.{count_most}
-use Rattle.layout.proofs.QuestionsCounted.{both, within, total_most}
-use Rattle.layout.proofs.QuestionsLoops.{holds, all_at}
+use Rattle.layout.proofs.QuestionsCounted.{within, total_most}
+use Rattle.layout.proofs.QuestionsLoops.{all_at}
 use Rattle.layout.proofs.QuestionsNamed.{any_count}
 use Rattle.layout.proofs.QuestionsOrdered.{question5_flat}
 
@@ -39,8 +41,8 @@ part_in : (xs : List Float) (starts : List ℕ) (i : ℕ) → parts_ordered xs s
 unfolding parts_ordered
 part_in xs [] i e h = absurd (omega arith)
 part_in xs (a ∷ []) i e h = absurd (omega arith)
-part_in xs (a ∷ b ∷ starts) zero e h = (both (ordered (slice a b xs)) (parts_ordered xs (b ∷ starts)) e).0
-part_in xs (a ∷ b ∷ starts) (suc i) e h = part_in xs (b ∷ starts) i (both (ordered (slice a b xs)) (parts_ordered xs (b ∷ starts)) e).1 (omega arith)
+part_in xs (a ∷ b ∷ starts) zero e h = (and_parts (ordered (slice a b xs)) (parts_ordered xs (b ∷ starts)) e).0
+part_in xs (a ∷ b ∷ starts) (suc i) e h = part_in xs (b ∷ starts) i (and_parts (ordered (slice a b xs)) (parts_ordered xs (b ∷ starts)) e).1 (omega arith)
 
 pub part_at : (xs : List Float) (starts : List ℕ) (n i : ℕ) → parts_ordered xs (take (n + 1) starts) ≡ true → i < n → n < length starts → ordered (slice (get_or starts i 0) (get_or starts (suc i) 0) xs) ≡ true
 part_at xs starts n i e h k =
@@ -72,8 +74,8 @@ module _ (l : Layout) where
   unfolding question1
   yes1 e =
       let names = map channel_name (channels_of l) in
-      let p = both (from_to 1 24 l.used && list_all valid_name names) (all_distinct names) e in
-      let q = both (from_to 1 24 l.used) (list_all valid_name names) p.0 in
+      let p = and_parts (from_to 1 24 l.used && list_all valid_name names) (all_distinct names) e in
+      let q = and_parts (from_to 1 24 l.used) (list_all valid_name names) p.0 in
       (q.0, q.1, p.1)
 
   yes3 : question3 l ≡ true → 1 ≤ active_count l
@@ -87,13 +89,13 @@ module _ (l : Layout) where
   yes4 e =
       let cs = map layer_count (used_layers l) in
       let ns = map row_count (used_rows l) in
-      let p = both (list_all (from_to 1 6) cs && list_all (leb 1) ns) (leb (total ns) 24) e in
-      let q = both (list_all (from_to 1 6) cs) (list_all (leb 1) ns) p.0 in
+      let p = and_parts (list_all (from_to 1 6) cs && list_all (leb 1) ns) (leb (total ns) 24) e in
+      let q = and_parts (list_all (from_to 1 6) cs) (list_all (leb 1) ns) p.0 in
       (q.0, q.1, leb-true (total ns) 24 p.1)
 
   yes5 : question5 l ≡ true → (ordered (map topology_z (topology_of l)) ≡ true) × (list_all ordered_layer (topology_of l) ≡ true)
   unfolding question5
-  yes5 e = both (ordered (map topology_z (topology_of l))) (list_all ordered_layer (topology_of l)) e
+  yes5 e = and_parts (ordered (map topology_z (topology_of l))) (list_all ordered_layer (topology_of l)) e
 
   pub yes6 : question6 l ≡ true → list_all (λ (n : ℕ). elem n (active_names l)) (map anchor_name (used_anchors l)) ≡ true
   unfolding question6
@@ -118,8 +120,8 @@ module _ (l : Layout) (channels : length l.channels ≡ 24) (layers : length l.l
       let rows_are : length (used_rows l) ≡ total cs = length-take-le (total cs) l.rows (omega arith) in
       let anchors_are : length (used_anchors l) ≡ total ns = length-take-le (total ns) l.anchors (omega arith) in
       let flat = question5_flat l layers rows anchors depth.1 ∙ y.4 in
-      let p = both (ordered (take l.depth (map layer_z l.layers)) && parts_ordered (map row_y l.rows) (take (l.depth + 1) (row_starts l))) (parts_ordered (map anchor_x l.anchors) (take (length (used_rows l) + 1) (anchor_starts l))) flat in
-      let zy = both (ordered (take l.depth (map layer_z l.layers))) (parts_ordered (map row_y l.rows) (take (l.depth + 1) (row_starts l))) p.0 in
+      let p = and_parts (ordered (take l.depth (map layer_z l.layers)) && parts_ordered (map row_y l.rows) (take (l.depth + 1) (row_starts l))) (parts_ordered (map anchor_x l.anchors) (take (length (used_rows l) + 1) (anchor_starts l))) flat in
+      let zy = and_parts (ordered (take l.depth (map layer_z l.layers))) (parts_ordered (map row_y l.rows) (take (l.depth + 1) (row_starts l))) p.0 in
       let count : (i : ℕ) → i < l.depth → (1 ≤ (get_or l.layers i no_layer).count) × ((get_or l.layers i no_layer).count ≤ 6) =
       λ i h. within 1 6 (get_or l.layers i no_layer).count (all_map_at (from_to 1 6) layer_count l.depth l.layers i no_layer q4.0 (omega arith) h) in
       record {
@@ -138,12 +140,12 @@ module _ (l : Layout) (channels : length l.channels ≡ 24) (layers : length l.l
         anchor_total = anchors_are;
         row_start = λ i h. start_sum layer_count l.layers i l.depth h (omega arith) few;
         anchor_start = λ i h. start_sum row_count l.rows i (total cs) (omega arith) (omega arith) q4.2;
-        z_ordered = holds _ q5.0;
-        layers_ordered = holds _ q5.1;
-        zs_ordered = holds _ zy.0;
-        ys_ordered = λ i h. holds _ (part_at (map row_y l.rows) (row_starts l) l.depth i zy.1 h (rw (starts_length 0 (map layer_count l.layers), length-map l.layers layer_count) (omega arith)));
-        xs_ordered = λ i h. holds _ (part_at (map anchor_x l.anchors) (anchor_starts l) (length (used_rows l)) i p.1 h (rw (starts_length 0 (map row_count l.rows), length-map l.rows row_count) (omega arith)));
-        anchor_active = λ i h. holds _ (all_map_at (λ (n : ℕ). elem n (active_names l)) anchor_name (total ns) l.anchors i no_anchor q6 h (omega arith));
-        channels_valid = holds _ q1.1;
-        channels_distinct = holds _ q1.2;
+        z_ordered = T_from_true _ q5.0;
+        layers_ordered = T_from_true _ q5.1;
+        zs_ordered = T_from_true _ zy.0;
+        ys_ordered = λ i h. T_from_true _ (part_at (map row_y l.rows) (row_starts l) l.depth i zy.1 h (rw (starts_length 0 (map layer_count l.layers), length-map l.layers layer_count) (omega arith)));
+        xs_ordered = λ i h. T_from_true _ (part_at (map anchor_x l.anchors) (anchor_starts l) (length (used_rows l)) i p.1 h (rw (starts_length 0 (map row_count l.rows), length-map l.rows row_count) (omega arith)));
+        anchor_active = λ i h. T_from_true _ (all_map_at (λ (n : ℕ). elem n (active_names l)) anchor_name (total ns) l.anchors i no_anchor q6 h (omega arith));
+        channels_valid = T_from_true _ q1.1;
+        channels_distinct = T_from_true _ q1.2;
       }

@@ -10,19 +10,15 @@ use lib.ListN.{length, take, length-map, length-take}
 use borrow.Author.Tests.{le-leb, lt-leb, le-ltb, lt-ltb, leb-true, leb-false}
 use Rattle.lists.specs.Lists.{total}
 use Rattle.std.specs.List.{list_all}
+use Rattle.std.proofs.lemmas.Bool.{and_parts}
 use Rattle.layout.specs.declared.Layout.{Layout}
 use Rattle.layout.specs.Topology.{used_layers, used_rows, row_count, layer_count}
 use Rattle.layout.specs.Questions.{from_to, question4}
 use Rattle.layout.specs.Steps.Counts.{counted_to}
 
--- both of two tests
-pub both : (a b : Bool) → (a && b) ≡ true → (a ≡ true) × (b ≡ true)
-both true b e = (refl, e)
-both false b e = absurd (false≢true e)
-
 -- a number from a to b
 pub within : (a b n : ℕ) → from_to a b n ≡ true → (a ≤ n) × (n ≤ b)
-within a b n e = let p = both (leb a n) (leb n b) e in (leb-true a n p.0, leb-true n b p.1)
+within a b n e = let p = and_parts (leb a n) (leb n b) e in (leb-true a n p.0, leb-true n b p.1)
 
 -- the code's test that n is not from a to b
 pub outside : (a b n : ℕ) → (ltb n a || ltb b n) ≡ not (from_to a b n)
@@ -43,7 +39,7 @@ outside a b n = ap₂ ◌||◌ (below a n) (below n b) ∙ neither (leb a n) (le
 pub total_most : (cs : List ℕ) → list_all (from_to 1 6) cs ≡ true → total cs ≤ length cs * 6
 total_most [] e = omega arith
 total_most (c ∷ cs) e =
-    let p = both (from_to 1 6 c) (list_all (from_to 1 6) cs) e in
+    let p = and_parts (from_to 1 6 c) (list_all (from_to 1 6) cs) e in
     let q = within 1 6 c p.0 in
     let r = total_most cs p.1 in
     omega arith

@@ -9,7 +9,8 @@ use lib.Ieee.{Float}
 use lib.ListN.{length, take, length-map, length-take}
 use Rattle.lists.specs.Lists.{chunks, total}
 use Rattle.std.specs.List.{list_all}
-use Rattle.lists.proofs.Takes.{map_take}
+use Rattle.std.proofs.lemmas.List.{take-map}
+use Rattle.std.proofs.lemmas.List.Folds.{list_all-map}
 use Rattle.layout.specs.declared.Anchor.{Anchor}
 use Rattle.layout.specs.declared.Row.{Row}
 use Rattle.layout.specs.declared.Layer.{Layer}
@@ -18,7 +19,7 @@ use Rattle.layout.specs.Topology.{TopologyRow, rows_of, layers_of, used_layers, 
 use Rattle.layout.specs.Steps.Starts.{starts_from, row_starts, anchor_starts}
 use Rattle.layout.specs.Questions.{ordered, ordered_row, ordered_layer, question5, topology_y}
 use Rattle.layout.specs.Steps.Counts.{parts_ordered}
-use Rattle.layout.proofs.TopologyLists.{all_both, all_map, all_concat, map_chunks, concat_chunks, take_taken}
+use Rattle.layout.proofs.TopologyLists.{all_both, all_concat, map_chunks, concat_chunks, take_taken}
 use Rattle.layout.proofs.TopologyStarts.{topology_anchors, topology_rows, rows_y, rows_anchors, rows_take, layers_z, layers_rows, parts, starts_parts, starts_take}
 
 -- each part between starts
@@ -31,9 +32,9 @@ parts_ordered_lem xs (a ∷ b ∷ starts) = rw (parts_ordered_lem xs (b ∷ star
 -- the x of each row
 pub rows_ordered : (rs : List Row) (xs : List Anchor) → list_all ordered_row (rows_of rs xs) ≡ list_all ordered (chunks (map row_count rs) (map anchor_x xs))
 rows_ordered rs xs =
-    all_map topology_anchors (λ (l : List Anchor). ordered (map anchor_x l)) (rows_of rs xs)
+    sym (list_all-map (λ (l : List Anchor). ordered (map anchor_x l)) topology_anchors (rows_of rs xs))
     ∙ ap (list_all (λ (l : List Anchor). ordered (map anchor_x l))) (rows_anchors rs xs)
-    ∙ all_map (map anchor_x) ordered (chunks (map row_count rs) xs)
+    ∙ sym (list_all-map ordered (map anchor_x) (chunks (map row_count rs) xs))
     ∙ ap (list_all ordered) (map_chunks anchor_x (map row_count rs) xs)
 
 -- the y of each layer's rows, and the x of each of their rows
@@ -44,11 +45,11 @@ layers_ordered_lem ls rs xs =
     let cs = map layer_count ls in
     let ts = rows_of rs xs in
     let y : List TopologyRow → Bool = λ l. ordered (map topology_y l) in
-    all_map topology_rows (λ (l : List TopologyRow). y l && list_all ordered_row l) (layers_of ls ts)
+    sym (list_all-map (λ (l : List TopologyRow). y l && list_all ordered_row l) topology_rows (layers_of ls ts))
     ∙ ap (list_all (λ (l : List TopologyRow). y l && list_all ordered_row l)) (layers_rows ls ts)
     ∙ all_both y (list_all ordered_row) (chunks cs ts)
     ∙ ap₂ ◌&&◌
-    (all_map (map topology_y) ordered (chunks cs ts) ∙ ap (list_all ordered) (map_chunks topology_y cs ts ∙ ap (chunks cs) (rows_y rs xs)))
+    (sym (list_all-map ordered (map topology_y) (chunks cs ts)) ∙ ap (list_all ordered) (map_chunks topology_y cs ts ∙ ap (chunks cs) (rows_y rs xs)))
     (all_concat ordered_row (chunks cs ts) ∙ ap (list_all ordered_row) (concat_chunks cs ts ∙ rows_take (total cs) rs xs) ∙ rows_ordered (take (total cs) rs) xs)
 
 -- the first n parts by counts are those between the first n + 1 starts
@@ -58,7 +59,7 @@ parts_flat count n l xs h k =
     ap (list_all ordered)
     (starts_parts (map count (take n l)) 0 xs k
     ∙ ap (λ (s : List ℕ). parts s xs)
-    (ap (starts_from 0) (map_take count n l) ∙ starts_take n (map count l) 0 (rw (length-map l count) h) ∙ ap (λ (m : ℕ). take m (starts_from 0 (map count l))) (sym (add-one n))))
+    (ap (starts_from 0) (sym (take-map count n l)) ∙ starts_take n (map count l) 0 (rw (length-map l count) h) ∙ ap (λ (m : ℕ). take m (starts_from 0 (map count l))) (sym (add-one n))))
     ∙ sym (parts_ordered_lem xs (take (n + 1) (starts_from 0 (map count l))))
 
 -- what the three parts of the code answer, together
@@ -74,7 +75,7 @@ question5_flat l e f g h =
     let few : length (used_rows l) ≤ length l.rows = simp length-take (omega arith) in
     sym
     (ap₂ ◌&&◌
-    (ap ordered (layers_z (used_layers l) (rows_of l.rows l.anchors) ∙ map_take layer_z l.depth l.layers))
+    (ap ordered (layers_z (used_layers l) (rows_of l.rows l.anchors) ∙ sym (take-map layer_z l.depth l.layers)))
     (layers_ordered_lem (used_layers l) l.rows l.anchors
     ∙ ap₂ ◌&&◌
     (parts_flat layer_count l.depth l.layers (map row_y l.rows) (omega arith) (rw (length-map l.rows row_y) (omega arith)))

@@ -29,6 +29,16 @@ module _ {A : Type 0} (q : ℕ) (a : A) where
       go true e h = absurd (cc)
       go false e h = (eqb-false q 0 e, cc)
 
+-- ---- what one question's answer says of it
+module _ {A : Type 0} (a : A) where
+  pub ask_ok : (b : Bool) (r : Refusal) (d : A) → cond b (Ok a) (Err r) ≡ Ok d → b ≡ true
+  ask_ok true r d h = refl
+  ask_ok false r d h = cc
+
+  pub ask_err : (b : Bool) (q r : Refusal) → cond b (Ok a) (Err q) ≡ Err r → (b ≡ false) × (r ≡ q)
+  ask_err true q r h = cc
+  ask_err false q r h = (refl, cc)
+
 -- what the first questions refuse, all of them refuse
 pub err_passes : {A B : Type 0} (q p : ℕ) (a : A) (b : B) (r : Refusal) → answer_by q a ≡ Err r → answer_by (or_else q p) b ≡ Err r
 err_passes {A} q p a b r = go (eqb q 0) refl

@@ -3,6 +3,7 @@ use Prim.Native.Nat.{ℕ, suc}
 use mathlib.Core.Path.{◌≡◌, refl, sym, ap, ◌∙◌}
 use mathlib.Core.Bool.{Bool, ◌&&◌, beq}
 use mathlib.Core.List.{List, [], ◌∷◌, ◌++◌, map, map-id}
+use Rattle.doubles.proofs.Alike.{beq→eq}
 use lib.Dec.{T, eqb, eqb→eq}
 use lib.Ieee.{eq}
 use lib.ListN.{length}
@@ -12,7 +13,6 @@ use Rattle.layout.specs.declared.Channel.{Channel}
 use Rattle.layout.specs.Topology.{TopologyRow, TopologyLayer}
 use Rattle.layout.specs.Room.{Room, rows_in, anchors_in}
 use Rattle.layout.specs.Same.{same_channel, same_anchor, same_row, same_layer, same_room}
-use Rattle.layout.proofs.SameNumbers.{beq→eq}
 use Rattle.layout.proofs.SameLists.{all_same_equal}
 use Rattle.layout.proofs.TopologyStarts.{topology_rows, topology_anchors}
 

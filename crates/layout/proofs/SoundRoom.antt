@@ -9,7 +9,7 @@ use lib.Ieee.{binary64, fits}
 use lib.ListN.{length, take, drop}
 use mir.Facts.{and_yes, yes_and}
 use Rattle.std.specs.List.{list_all}
-use Rattle.lists.proofs.Takes.{map_take}
+use Rattle.std.proofs.lemmas.List.{take-map}
 use Rattle.layout.specs.declared.Anchor.{Anchor}
 use Rattle.layout.specs.declared.Row.{Row}
 use Rattle.layout.specs.declared.Layer.{Layer}
@@ -92,5 +92,5 @@ sound_room l s a zs ys xs =
       few_anchors = omega (arith, a.most_anchors);
       z_ordered = a.z_ordered;
       layers_ordered = a.layers_ordered;
-      doubles = layers_fit (used_layers l) _ (rw (map_take layer_z l.depth l.layers) (all_taken (fits binary64) l.depth (map layer_z l.layers) zs)) (rows_fit l.rows l.anchors ys (all_unmap (fits binary64) anchor_x l.anchors xs));
+      doubles = layers_fit (used_layers l) _ (rw (← take-map layer_z l.depth l.layers) (all_taken (fits binary64) l.depth (map layer_z l.layers) zs)) (rows_fit l.rows l.anchors ys (all_unmap (fits binary64) anchor_x l.anchors xs));
     }

@@ -6,9 +6,9 @@ use native.Mathlib.Nat.{zero-add}
 use native.Mathlib.Numerals.{add-one}
 use native.Mathlib.Omega.{arith}
 use lib.ListN.{length, get_or, take, set, replicate, length-map, length-take}
-use Rattle.std.proofs.lemmas.List.{length-replicate}
+use Rattle.std.proofs.lemmas.List.{length-replicate, take-map}
 use Rattle.lists.specs.Lists.{total}
-use Rattle.lists.proofs.Takes.{take_min, map_take}
+use Rattle.lists.proofs.Takes.{take_min}
 use Rattle.lists.proofs.Fill.{Filled, fill_none, fill_more}
 use Rattle.layout.specs.Steps.Starts.{starts_from}
 
@@ -41,7 +41,7 @@ pub starts_used : {A B : Type 0} (f : A → ℕ) (n k : ℕ) (xs : List A) (ys :
 starts_used f n k xs ys p q =
     let l : length (map f xs) ≡ n = length-map xs f ∙ p in
     let t = starts_total 0 (map f xs) (min k n) (omega arith) (omega arith) in
-    rw (take_min k n (map f xs) (omega arith), ← map_take f k xs, zero-add) at t ∙ rw (← q) (sym (length-take _ ys))
+    rw (take_min k n (map f xs) (omega arith), take-map f k xs, zero-add) at t ∙ rw (← q) (sym (length-take _ ys))
 
 -- ---- the loop that writes the starts of parts: the first i + 1 are written, and s is the last of them
 pub record Started (cs out : List ℕ) (s i : ℕ) : Type 0 where

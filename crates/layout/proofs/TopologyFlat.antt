@@ -1,12 +1,12 @@
 -- The topology of any layout by the flat lists and the starts, for code that walks these: its lists, and each layer and row.
 use Prim.Native.Nat.{ℕ, suc, ◌≤◌, ◌<◌}
-use mathlib.Core.Path.{◌≡◌, ap, ◌∙◌}
+use mathlib.Core.Path.{◌≡◌, ap, ◌∙◌, sym}
 use mathlib.Core.List.{map}
 use native.Mathlib.Omega.{arith}
 use lib.ListN.{length, get_or, take, length-map}
 use lib.Seq.{slice, get_or-take, length-take-le}
+use Rattle.std.proofs.lemmas.List.{take-map}
 use Rattle.lists.specs.Lists.{total, flatten}
-use Rattle.lists.proofs.Takes.{map_take}
 use Rattle.layout.specs.declared.Layout.{Layout}
 use Rattle.layout.specs.Topology.{TopologyRow, TopologyLayer, topology_of, rows_of, used_layers, used_rows, used_anchors, row_y, row_count, layer_z, layer_count}
 use Rattle.layout.specs.Steps.Starts.{starts_from, row_starts, anchor_starts, no_row, no_layer}
@@ -26,7 +26,7 @@ module _ (l : Layout) where
   topology_anchors_lem = ap flatten (rows_anchors (used_rows l) l.anchors) ∙ concat_chunks (map row_count (used_rows l)) l.anchors
 
   pub topology_z_lem : map topology_z (topology_of l) ≡ take l.depth (map layer_z l.layers)
-  topology_z_lem = layers_z (used_layers l) (rows_of l.rows l.anchors) ∙ map_take layer_z l.depth l.layers
+  topology_z_lem = layers_z (used_layers l) (rows_of l.rows l.anchors) ∙ sym (take-map layer_z l.depth l.layers)
 
   pub topology_y_lem : map topology_y (rows_of l.rows l.anchors) ≡ map row_y l.rows
   topology_y_lem = rows_y l.rows l.anchors
@@ -40,7 +40,7 @@ module _ (l : Layout) (layers : length l.layers ≡ 4) (rows : length l.rows ≡
   used_starts : starts_from 0 (map layer_count (used_layers l)) ≡ take (suc l.depth) (row_starts l)
   used_starts =
       let n = length-map l.layers layer_count in
-      ap (starts_from 0) (map_take layer_count l.depth l.layers) ∙ starts_take l.depth (map layer_count l.layers) 0 (omega arith)
+      ap (starts_from 0) (sym (take-map layer_count l.depth l.layers)) ∙ starts_take l.depth (map layer_count l.layers) 0 (omega arith)
 
   pub topology_layer : (i : ℕ) (d : TopologyLayer) → i < l.depth →
       get_or (topology_of l) i d ≡ record { z = (get_or l.layers i no_layer).z; rows = slice (get_or (row_starts l) i 0) (get_or (row_starts l) (suc i) 0) (rows_of l.rows l.anchors) }

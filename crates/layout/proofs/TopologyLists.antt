@@ -1,7 +1,7 @@
 -- Laws on lists that are cut by counts, and on tests of such lists.
 use Prim.Native.Nat.{ℕ, zero, suc, ◌+◌, ◌≤◌, ◌<◌, min}
 use mathlib.Core.Path.{◌≡◌, refl, sym, ap, ap₂, ◌∙◌}
-use mathlib.Core.Bool.{Bool, true, false, ◌&&◌, and_assoc}
+use mathlib.Core.Bool.{Bool, true, false, ◌&&◌}
 use mathlib.Core.List.{List, [], ◌∷◌, ◌++◌, map}
 use native.Mathlib.Nat.{zero-min, suc-min-suc}
 use native.Mathlib.Omega.{arith}
@@ -9,7 +9,8 @@ use lib.ListN.{length, get_or, take, drop}
 use lib.Seq.{drop-nil, take-add}
 use Rattle.lists.specs.Lists.{total, chunks, flatten}
 use Rattle.std.specs.List.{list_all}
-use Rattle.lists.proofs.Takes.{map_take}
+use Rattle.std.proofs.lemmas.List.{take-map, drop-map}
+use Rattle.std.proofs.lemmas.List.Folds.{list_all-append}
 
 module _ {A : Type 0} where
   -- a list of at most k is passed by k
@@ -31,13 +32,9 @@ module _ {A : Type 0} where
   concat_chunks (n ∷ ns) xs = ap (λ (r : List A). take n xs ++ r) (concat_chunks ns (drop n xs)) ∙ sym (take-add n (total ns) xs)
 
   -- ---- tests
-  pub all_append : (p : A → Bool) (xs ys : List A) → list_all p (xs ++ ys) ≡ (list_all p xs && list_all p ys)
-  all_append p [] ys = refl
-  all_append p (x ∷ xs) ys = rw (all_append p xs ys) (sym (and_assoc (p x) (list_all p xs) (list_all p ys)))
-
   pub all_concat : (p : A → Bool) (xss : List (List A)) → list_all (list_all p) xss ≡ list_all p (flatten xss)
   all_concat p [] = refl
-  all_concat p (xs ∷ xss) = rw (all_append p xs (flatten xss), all_concat p xss)
+  all_concat p (xs ∷ xss) = rw (list_all-append p xs (flatten xss), all_concat p xss)
 
   pub all_both : (p q : A → Bool) (xs : List A) → list_all (λ x. p x && q x) xs ≡ (list_all p xs && list_all q xs)
   all_both p q [] = refl
@@ -50,19 +47,10 @@ module _ {A : Type 0} where
       exchange false b c d = refl
 
 module _ {A B : Type 0} (f : A → B) where
-  pub map_drop : (n : ℕ) (xs : List A) → map f (drop n xs) ≡ drop n (map f xs)
-  map_drop zero xs = refl
-  map_drop (suc n) [] = refl
-  map_drop (suc n) (x ∷ xs) = map_drop n xs
-
   pub map_chunks : (ns : List ℕ) (xs : List A) → map (map f) (chunks ns xs) ≡ chunks ns (map f xs)
   map_chunks [] xs = refl
   map_chunks (n ∷ ns) xs =
-      ap₂ (λ (a : List B) (r : List (List B)). a ∷ r) (map_take f n xs) (map_chunks ns (drop n xs) ∙ ap (chunks ns) (map_drop n xs))
-
-  pub all_map : (p : B → Bool) (xs : List A) → list_all (λ x. p (f x)) xs ≡ list_all p (map f xs)
-  all_map p [] = refl
-  all_map p (x ∷ xs) = ap (λ (b : Bool). p (f x) && b) (all_map p xs)
+      ap₂ (λ (a : List B) (r : List (List B)). a ∷ r) (sym (take-map f n xs)) (map_chunks ns (drop n xs) ∙ ap (chunks ns) (sym (drop-map f n xs)))
 
 -- ---- sums of counts
 pub total_within : (i n : ℕ) (cs : List ℕ) → i ≤ n → total (take i cs) ≤ total (take n cs)

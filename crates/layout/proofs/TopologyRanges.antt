@@ -4,8 +4,8 @@ use mathlib.Core.Path.{◌≡◌, sym, ◌∙◌}
 use mathlib.Core.List.{List, map}
 use native.Mathlib.Omega.{arith}
 use lib.ListN.{length, get_or, take}
+use Rattle.std.proofs.lemmas.List.{take-map}
 use Rattle.lists.specs.Lists.{total}
-use Rattle.lists.proofs.Takes.{map_take}
 use Rattle.layout.specs.declared.Layout.{Layout}
 use Rattle.layout.specs.Topology.{used_layers, used_rows, used_anchors, row_count, layer_count}
 use Rattle.layout.specs.Steps.Starts.{row_starts, anchor_starts, no_row, no_layer}
@@ -14,7 +14,7 @@ use Rattle.layout.proofs.TopologyLists.{total_within, total_next, take_taken}
 
 -- the sum of the first i counts is at most that of the first n
 sums_within : {A : Type 0} (count : A → ℕ) (i n : ℕ) (l : List A) → i ≤ n → total (map count (take i l)) ≤ total (map count (take n l))
-sums_within count i n l h = rw (map_take count i l, map_take count n l) (total_within i n (map count l) h)
+sums_within count i n l h = rw (← take-map count i l, ← take-map count n l) (total_within i n (map count l) h)
 
 module _ (l : Layout) (layers : length l.layers ≡ 4) (rows : length l.rows ≡ 24) (a : Accepted l) where
   -- ---- the rows of a layer

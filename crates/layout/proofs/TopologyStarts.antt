@@ -6,9 +6,9 @@ use mathlib.Core.List.{List, [], ◌∷◌, map}
 use native.Mathlib.Omega.{arith}
 use lib.ListN.{length, get_or, take, drop, length-map}
 use lib.Seq.{slice, drop-drop}
+use Rattle.std.proofs.lemmas.List.{drop-take, take-map}
 use Rattle.lists.specs.Lists.{total, chunks}
-use Rattle.lists.proofs.Chunks.{slice_take}
-use Rattle.lists.proofs.Takes.{take_min, map_take}
+use Rattle.lists.proofs.Takes.{take_min}
 use Rattle.layout.specs.declared.Anchor.{Anchor}
 use Rattle.layout.specs.declared.Row.{Row}
 use Rattle.layout.specs.declared.Layer.{Layer}
@@ -65,8 +65,8 @@ starts_first (c ∷ cs) s = refl
 pub start_sum : {A : Type 0} (count : A → ℕ) (l : List A) (i n : ℕ) → i ≤ n → i ≤ length l → total (map count (take n l)) ≤ 24 → get_or (starts_from 0 (map count l)) i 0 ≡ total (map count (take i l))
 start_sum count l i n h k m =
     let w = total_within i n (map count l) h in
-    let m' : total (take n (map count l)) ≤ 24 = rw (← map_take count n l) m in
-    starts_total 0 (map count l) i (omega arith) (rw (length-map l count) k) ∙ rw (map_take count i l) (omega arith)
+    let m' : total (take n (map count l)) ≤ 24 = rw (take-map count n l) m in
+    starts_total 0 (map count l) i (omega arith) (rw (length-map l count) k) ∙ rw (← take-map count i l) (omega arith)
 
 -- the starts of the first n parts
 pub starts_take : (n : ℕ) (cs : List ℕ) (s : ℕ) → n ≤ length cs → starts_from s (take n cs) ≡ take (suc n) (starts_from s cs)
@@ -84,7 +84,7 @@ module _ {A : Type 0} where
 
   -- one part, and what follows it
   pub part_here : (s c : ℕ) (xs : List A) → length xs ≤ 24 → take c (drop s xs) ≡ slice s (min (s + c) 24) xs
-  part_here s c xs h = sym (slice_take s c xs) ∙ ap (drop s) (sym (take_min (s + c) 24 xs h))
+  part_here s c xs h = sym (drop-take s c xs) ∙ ap (drop s) (sym (take_min (s + c) 24 xs h))
 
   pub part_rest : (s c : ℕ) (xs : List A) → length xs ≤ 24 → drop c (drop s xs) ≡ drop (min (s + c) 24) xs
   part_rest s c xs h = drop-drop c s xs ∙ drop_cap (s + c) 24 xs h
@@ -99,22 +99,26 @@ module _ {A : Type 0} where
 
 -- ---- row i and layer i of the topology
 
+-- a part that is made of each item and what is cut for it
+cut_at : {P X Q : Type 0} (cut : List P → List X → List Q) (make : P → List X → Q) (count : P → ℕ) (step : (p : P) (ps : List P) (xs : List X) → cut (p ∷ ps) xs ≡ make p (take (count p) xs) ∷ cut ps (drop (count p) xs))
+    (ps : List P) (xs : List X) (s i : ℕ) (e : P) (d : Q) → length xs ≤ 24 → i < length ps →
+    let starts = starts_from s (map count ps) in
+    get_or (cut ps (drop s xs)) i d ≡ make (get_or ps i e) (slice (get_or starts i 0) (get_or starts (suc i) 0) xs)
+cut_at cut make count step [] xs s i e d h k = let z : ⊥ = omega arith in absurd z
+cut_at {Q = Q} cut make count step (p ∷ ps) xs s zero e d h k =
+    ap (λ (qs : List Q). get_or qs 0 d) (step p ps (drop s xs))
+    ∙ ap (make p) (part_here s (count p) xs h ∙ ap (λ (n : ℕ). slice s n xs) (sym (starts_first (map count ps) (min (s + count p) 24))))
+cut_at {X = X} {Q = Q} cut make count step (p ∷ ps) xs s (suc i) e d h k =
+    ap (λ (qs : List Q). get_or qs (suc i) d) (step p ps (drop s xs))
+    ∙ ap (λ (t : List X). get_or (cut ps t) i d) (part_rest s (count p) xs h)
+    ∙ cut_at cut make count step ps xs (min (s + count p) 24) i e d h (omega arith)
+
 pub rows_at : (rs : List Row) (xs : List Anchor) (s i : ℕ) (d : TopologyRow) → length xs ≤ 24 → i < length rs →
     let starts = starts_from s (map row_count rs) in
     get_or (rows_of rs (drop s xs)) i d ≡ record { y = (get_or rs i no_row).y; anchors = slice (get_or starts i 0) (get_or starts (suc i) 0) xs }
-rows_at [] xs s i d h k = let z : ⊥ = omega arith in absurd z
-rows_at (r ∷ rs) xs s zero d h k =
-    ap {B = TopologyRow} (λ t. record { y = r.y; anchors = t })
-    (part_here s r.count xs h ∙ ap (λ (e : ℕ). slice s e xs) (sym (starts_first (map row_count rs) (min (s + r.count) 24))))
-rows_at (r ∷ rs) xs s (suc i) d h k =
-    ap (λ (t : List Anchor). get_or (rows_of rs t) i d) (part_rest s r.count xs h) ∙ rows_at rs xs (min (s + r.count) 24) i d h (omega arith)
+rows_at rs xs s i d h k = cut_at rows_of (λ (r : Row) (t : List Anchor). record { y = r.y; anchors = t }) row_count (λ r ps v. refl) rs xs s i no_row d h k
 
 pub layers_at : (ls : List Layer) (rs : List TopologyRow) (s i : ℕ) (d : TopologyLayer) → length rs ≤ 24 → i < length ls →
     let starts = starts_from s (map layer_count ls) in
     get_or (layers_of ls (drop s rs)) i d ≡ record { z = (get_or ls i no_layer).z; rows = slice (get_or starts i 0) (get_or starts (suc i) 0) rs }
-layers_at [] rs s i d h k = let z : ⊥ = omega arith in absurd z
-layers_at (l ∷ ls) rs s zero d h k =
-    ap {B = TopologyLayer} (λ t. record { z = l.z; rows = t })
-    (part_here s l.count rs h ∙ ap (λ (e : ℕ). slice s e rs) (sym (starts_first (map layer_count ls) (min (s + l.count) 24))))
-layers_at (l ∷ ls) rs s (suc i) d h k =
-    ap (λ (t : List TopologyRow). get_or (layers_of ls t) i d) (part_rest s l.count rs h) ∙ layers_at ls rs (min (s + l.count) 24) i d h (omega arith)
+layers_at ls rs s i d h k = cut_at layers_of (λ (l : Layer) (t : List TopologyRow). record { z = l.z; rows = t }) layer_count (λ l ps v. refl) ls rs s i no_layer d h k

@@ -1,6 +1,6 @@
 // A layout made entry by entry.
 ghost use Rattle.std.specs.Prelude.{◌≡◌};
-ghost use Rattle.layout.specs.Build.{empty_layout, one_more, with_channel, with_layer, with_row, with_anchor};
+ghost use Rattle.layout.specs.Build.{empty_layout, one_more, put, has_layer, has_row, with_channel, with_layer, with_row, with_anchor};
 
 use crate::starts::{anchor_total, row_total};
 use crate::{Anchor, Channel, Layer, Layout, Row};
@@ -12,26 +12,42 @@ fn one_more(n: usize) -> usize
     n.saturating_add(1)
 }
 
+// Writes x to a place, where there is such a place. By its index: of `get_mut` at any T the proof did not
+// close.
+fn put<T: Copy>(places: &mut [T], at: usize, x: T)
+    ensures { places.new ≡ put places.old at x }
+{
+    if at < places.len() {
+        places[at] = x;
+    }
+}
+
+// Whether there is a last layer that has a place.
+fn has_layer(l: Layout) -> bool
+    ensures { result ≡ has_layer l }
+{
+    (1 <= l.depth) & (l.depth <= 4)
+}
+
+// Whether that layer has a row.
+fn has_row(l: Layout) -> bool
+    ensures { result ≡ has_row l }
+{
+    has_layer(l) && 1 <= l.layers[l.depth - 1].count
+}
+
 impl Layout {
     // No channels and no layers.
     pub fn new() -> Layout
         ensures { result ≡ empty_layout }
     {
-        let channels = [Channel {
-            name: 0,
-            enabled: false,
-            lfe: false,
-        }; 24];
-        let layers = [Layer { z: 0.0, count: 0 }; 4];
-        let rows = [Row { y: 0.0, count: 0 }; 24];
-        let anchors = [Anchor { name: 0, x: 0.0 }; 24];
         Layout {
-            channels,
+            channels: [Channel::default(); 24],
             used: 0,
-            layers,
+            layers: [Layer::default(); 4],
             depth: 0,
-            rows,
-            anchors,
+            rows: [Row::default(); 24],
+            anchors: [Anchor::default(); 24],
         }
     }
 
@@ -40,11 +56,8 @@ impl Layout {
         ensures { result ≡ with_channel self c }
     {
         let mut l = self;
-        let at = l.used;
-        if at < 24 {
-            l.channels[at] = c;
-        }
-        l.used = one_more(at);
+        put(&mut l.channels, self.used, c);
+        l.used = one_more(self.used);
         l
     }
 
@@ -53,11 +66,8 @@ impl Layout {
         ensures { result ≡ with_layer self z }
     {
         let mut l = self;
-        let at = l.depth;
-        if at < 4 {
-            l.layers[at] = Layer { z, count: 0 };
-        }
-        l.depth = one_more(at);
+        put(&mut l.layers, self.depth, Layer { z, count: 0 });
+        l.depth = one_more(self.depth);
         l
     }
 
@@ -67,15 +77,12 @@ impl Layout {
         ensures { result ≡ with_row self y }
     {
         let mut l = self;
-        let depth = l.depth;
-        if (depth < 1) | (4 < depth) {
+        if !has_layer(l) {
             return l;
         }
-        let at = row_total(l);
-        l.layers[depth - 1].count = one_more(l.layers[depth - 1].count);
-        if at < 24 {
-            l.rows[at] = Row { y, count: 0 };
-        }
+        put(&mut l.rows, row_total(self), Row { y, count: 0 });
+        let layer = &mut l.layers[l.depth - 1];
+        layer.count = one_more(layer.count);
         l
     }
 
@@ -85,19 +92,12 @@ impl Layout {
         ensures { result ≡ with_anchor self a }
     {
         let mut l = self;
-        let layers = l.depth;
-        if (layers < 1) | (4 < layers) {
+        if !has_row(l) {
             return l;
         }
-        if l.layers[layers - 1].count < 1 {
-            return l;
-        }
-        let row = row_total(l) - 1;
-        let at = anchor_total(l);
-        l.rows[row].count = one_more(l.rows[row].count);
-        if at < 24 {
-            l.anchors[at] = a;
-        }
+        put(&mut l.anchors, anchor_total(self), a);
+        let row = &mut l.rows[row_total(self) - 1];
+        row.count = one_more(row.count);
         l
     }
 }

@@ -1,5 +1,5 @@
 // Why a call is refused.
-ghost use Rattle.std.specs.Prelude.{◌≡◌, Some};
+ghost use Rattle.std.specs.Prelude.{◌≡◌, if◌then◌else◌, Some, Ok, Err};
 ghost use Rattle.std.specs.Fmt.{decimal};
 ghost use Rattle.layout.specs.Refusals.{number_of};
 
@@ -33,6 +33,13 @@ impl Refusal {
     {
         self as u64
     }
+}
+
+// A question's answer: nothing for a yes, the refusal for a no.
+pub fn ask(yes: bool, no: Refusal) -> Result<(), Refusal>
+    ensures { result ≡ (if yes then Ok tt else Err no) }
+{
+    if yes { Ok(()) } else { Err(no) }
 }
 
 // It is written as its number.

@@ -14,7 +14,8 @@ pub fn next_start(s: usize, c: usize) -> usize
     s.saturating_add(c).min(24)
 }
 
-// How far these counts lead from s, none past 24: s and all of them, or 24 where that is more.
+// How far these counts lead from s, none past 24: s and all of them, or 24 where that is more. Over a slice:
+// over any iterator it would require that it ends, and public functions require nothing.
 pub fn reach(counts: &[u64], s: usize) -> usize
     ensures { result ≡ min (s + total counts.now) 24 }
 {
@@ -28,6 +29,7 @@ fn starts_from<const N: usize>(counts: &[usize]) -> [usize; N]
     requires { N ≡ length counts.now + 1 }
     ensures { result ≡ starts_from 0 counts.now }
 {
+    // By place: each is written behind the count that it follows from.
     let mut starts = [0usize; N];
     let mut s = 0usize;
     for (i, c) in counts.iter().enumerate() {

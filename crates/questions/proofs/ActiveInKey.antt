@@ -10,10 +10,10 @@ use lib.Dec.{eqb, ltb}
 use lib.ListN.{length, get_or, length-map, get_or-map}
 use Rattle.lists.specs.Lists.{elem, all_distinct, index_of}
 use Rattle.std.specs.List.{filter}
+use Rattle.std.proofs.lemmas.Bool.{and_parts}
 use Rattle.lists.proofs.Tests.{place_at}
 use Rattle.layout.specs.declared.Channel.{Channel}
 use Rattle.layout.specs.Channels.{channel_name, active, no_channel}
-use Rattle.layout.proofs.QuestionsCounted.{both}
 use Rattle.questions.specs.Steps.KeyNames.{is_active_name}
 
 -- the names of active channels
@@ -54,7 +54,7 @@ named_place : (x : ℕ) (cs : List Channel) → all_distinct (map channel_name c
     (p < length cs) × (active (get_or cs p no_channel) ≡ true)
 named_place x [] d e = absurd (false≢true e)
 named_place x (c ∷ cs) d e =
-    let b = both (not (elem (channel_name c) (map channel_name cs))) (all_distinct (map channel_name cs)) d in
+    let b = and_parts (not (elem (channel_name c) (map channel_name cs))) (all_distinct (map channel_name cs)) d in
     go (eqb (channel_name c) x) refl (not-true _ b.0) (sym (named_first x c cs) ∙ e) (named_place x cs b.1)
   where
     here : (b : Bool) → active c ≡ b → channel_name c ≡ x → elem (channel_name c) (map channel_name cs) ≡ false → cond b true (elem x (named cs)) ≡ true → active c ≡ true
@@ -75,7 +75,7 @@ module _ (cs : List Channel) (names flags : List ℕ) (names_are : names ≡ map
   active_by_key : (w : ℕ) → is_active_name names flags w ≡ true → elem w (named cs) ≡ true
   active_by_key w e =
       let p = index_of w names in
-      let b = both (ltb p (length names)) (eqb (get_or flags p 0) 1) e in
+      let b = and_parts (ltb p (length names)) (eqb (get_or flags p 0) 1) e in
       let h : p < length names = ltb-true p (length names) b.0 in
       let long : length names ≡ length cs = ap length names_are ∙ length-map cs channel_name in
       let name : channel_name (get_or cs p no_channel) ≡ w = sym (get_or-map channel_name cs p no_channel) ∙ ap (λ (l : List ℕ). get_or l p 0) (sym names_are) ∙ place_at w names h in

@@ -1,19 +1,19 @@
 -- What is answered of a key, each test after a "yes" to those before it.
 use Prim.Native.Nat.{ℕ, ◌+◌, ◌≤◌}
 use mathlib.Core.Path.{◌≡◌, sym, ap, ◌∙◌}
-use mathlib.Core.Bool.{true, false, ◌||◌}
+use mathlib.Core.Bool.{Bool, true, false, cond}
 use mathlib.Core.List.{List}
-use borrow.Author.Tests.{not-true, not-false}
-use lib.Dec.{eqb, ltb}
+use lib.Dec.{eqb}
 use lib.ListN.{length, take, get_or}
-use Rattle.std.specs.Prelude.{Result, Some, None, slice_range}
+use Rattle.std.specs.Prelude.{Result, Ok, Err, Some, None, slice_range}
 use Rattle.std.specs.List.{list_all, list_any}
+use Rattle.std.proofs.lemmas.Bool.{and_parts}
 use Rattle.lists.specs.Lists.{all_distinct, total}
 use Rattle.layout.specs.declared.refusal.Refusal.{Refusal}
+use Rattle.layout.specs.declared.refusal.Refusal.TheVariants.{Anchors}
 use Rattle.layout.specs.Name.{valid_name}
 use Rattle.layout.specs.Questions.{from_to, first_no, layout_questions, question1, question2, question3, question4, question5}
 use Rattle.layout.specs.Refusals.{answer_by}
-use Rattle.layout.proofs.QuestionsCounted.{both, outside}
 use Rattle.layout.proofs.QuestionsNamed.{question1_not}
 use Rattle.layout.proofs.QuestionsFirst.{first_1, first_2, first_3, first_4, first_5, first_6, first_none}
 use Rattle.keys.specs.InKey.{layout_in}
@@ -40,13 +40,10 @@ module _ (key : List ℕ) (long : length key ≡ 156) where
   says : (n : ℕ) → n ≡ first_no (layout_questions (layout_in key)) → Answers n
   says n e = rw e
 
-  pub channels_out : (ltb used 1 || ltb 24 used) ≡ true → Answers 1
-  channels_out e = says _ (first_1 _ (sym (question1_not _ (ap (from_to 1 24) (used_is key long) ∙ not-true _ (sym (outside 1 24 used) ∙ e)))))
+  pub channels_out : from_to 1 24 used ≡ false → Answers 1
+  channels_out e = says _ (first_1 _ (sym (question1_not _ (ap (from_to 1 24) (used_is key long) ∙ e))))
 
-  module _ (channels_in : (ltb used 1 || ltb 24 used) ≡ false) where
-    sizes : from_to 1 24 used ≡ true
-    sizes = not-false _ (sym (outside 1 24 used) ∙ channels_in)
-
+  module _ (sizes : from_to 1 24 used ≡ true) where
     pub names_bad : good_names (take used key) ≡ false → Answers 1
     names_bad e = says _ (first_1 _ (sym (question1_by key long sizes) ∙ e))
 
@@ -54,13 +51,10 @@ module _ (key : List ℕ) (long : length key ≡ 156) where
       q1 : question1 (layout_in key) ≡ true
       q1 = sym (question1_by key long sizes) ∙ names
 
-      pub layers_out : (ltb depth 1 || ltb 4 depth) ≡ true → Answers 2
-      layers_out e = says _ (first_2 _ q1 (ap (from_to 1 4) (depth_is key long) ∙ not-true _ (sym (outside 1 4 depth) ∙ e)))
+      pub layers_out : from_to 1 4 depth ≡ false → Answers 2
+      layers_out e = says _ (first_2 _ q1 (ap (from_to 1 4) (depth_is key long) ∙ e))
 
-      module _ (layers_in : (ltb depth 1 || ltb 4 depth) ≡ false) where
-        depths : from_to 1 4 depth ≡ true
-        depths = not-false _ (sym (outside 1 4 depth) ∙ layers_in)
-
+      module _ (depths : from_to 1 4 depth ≡ true) where
         q2 : question2 (layout_in key) ≡ true
         q2 = ap (from_to 1 4) (depth_is key long) ∙ depths
 
@@ -93,10 +87,15 @@ module _ (key : List ℕ) (long : length key ≡ 156) where
                 q5 = sym (question5_by key long sizes depths rows r anchors a) ∙ order
 
                 distinct : all_distinct (take used key) ≡ true
-                distinct = (both (list_all valid_name (take used key)) (all_distinct (take used key)) names).1
+                distinct = (and_parts (list_all valid_name (take used key)) (all_distinct (take used key)) names).1
 
-                pub not_active : all_active_names (take used key) (slice_range key 24 (24 + used)) (slice_range key 76 (76 + anchors)) ≡ false → Answers 6
+                not_active : all_active_names (take used key) (slice_range key 24 (24 + used)) (slice_range key 76 (76 + anchors)) ≡ false → Answers 6
                 not_active e = says _ (first_6 _ q1 q2 q3 q4 q5 (sym (question6_by key long sizes depths rows r anchors a distinct) ∙ e))
 
-                pub accepted : all_active_names (take used key) (slice_range key 24 (24 + used)) (slice_range key 76 (76 + anchors)) ≡ true → Answers 0
+                accepted : all_active_names (take used key) (slice_range key 24 (24 + used)) (slice_range key 76 (76 + anchors)) ≡ true → Answers 0
                 accepted e = says _ (first_none _ q1 q2 q3 q4 q5 (sym (question6_by key long sizes depths rows r anchors a distinct) ∙ e))
+
+                -- question 6 is the last one
+                pub last_asked : (b : Bool) → b ≡ all_active_names (take used key) (slice_range key 24 (24 + used)) (slice_range key 76 (76 + anchors)) → cond b (Ok tt) (Err Anchors) ≡ answer (first_no (layout_questions (layout_in key)))
+                last_asked true e = accepted (sym e)
+                last_asked false e = not_active (sym e)

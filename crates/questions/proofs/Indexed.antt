@@ -1,24 +1,23 @@
 -- Laws for the index of the names in a key. Assumes nothing.
 use Prim.Native.Nat.{ℕ, zero, suc, ◌+◌, ◌%◌, ◌≤◌, ◌<◌}
 use mathlib.Core.Path.{◌≡◌, refl, sym, ap, ◌∙◌, subst}
-use mathlib.Core.Bool.{Bool, true, false, cond, ◌&&◌, false≢true}
-use mathlib.Core.List.{List, [], ◌∷◌}
+use mathlib.Core.Bool.{Bool, true, false, cond, ◌&&◌}
+use mathlib.Core.List.{List, [], ◌∷◌, ◌++◌}
 use native.Mathlib.Numerals.{add-one}
 use native.Mathlib.Omega.{arith}
 use borrow.Author.Tests.{eq-eqb, eqb-true, eqb-false, lt-ltb, ltb-true}
 use lib.Dec.{eqb, ltb}
-use lib.ListN.{length, drop, get_or, set, length-set, length-drop, drop_of_length-le}
-use lib.Seq.{drop-cons, get_or-drop, get_or-set_same, get_or-set_other}
+use lib.ListN.{length, take, drop, get_or, set, length-set, length-drop, length-append}
+use lib.Seq.{drop-cons, get_or-drop, get_or-take, get_or_at, get_or-set_same, get_or-set_other, take_all, take-take, take-append-le}
 use Rattle.std.specs.Prelude.{Option, Some, None, position}
 use Rattle.lists.specs.Lists.{all_distinct, elem, index_of}
 use Rattle.std.specs.List.{list_all}
 use Rattle.lists.proofs.Places.{position_is}
 use Rattle.lists.proofs.Tests.{elem_place, place_at}
 use Rattle.std.specs.Option.{MatchOption}
+use Rattle.std.proofs.lemmas.Bool.{and_parts}
 use Rattle.layout.specs.Name.{valid_name}
-use Rattle.layout.proofs.QuestionsCounted.{both}
-use Rattle.layout.proofs.QuestionsLoops.{all_at}
-use Rattle.questions.specs.Steps.KeyNames.{good_names, is_active_name, IndexOf}
+use Rattle.questions.specs.Steps.KeyNames.{is_active_name, IndexOf}
 
 -- the place of a name is no later than any place where it stands
 place_le : (x : ℕ) (l : List ℕ) (p : ℕ) → p < length l → get_or l p 0 ≡ x → index_of x l ≤ p
@@ -39,18 +38,6 @@ pub record Named (names : List ℕ) (entries : List ℕ) (clear : Bool) (i : ℕ
   pub told : (j : ℕ) → i ≤ j → j < length names → get_or entries (get_or names j 0 % 167) 0 ≤ j
   pub distinct : clear ≡ true → all_distinct (drop i names) ≡ true
 
-pub named_none : (names : List ℕ) (entries : List ℕ) → length names ≤ 24 → length entries ≡ 167 → Named names entries true (length names)
-named_none names entries f r =
-    let e : drop (length names) names ≡ [] = drop_of_length-le names {i = length names} (omega arith) in
-    record {
-      reached = omega arith;
-      few = f;
-      room = r;
-      valid = rw e;
-      told = λ j a b. absurd (omega arith);
-      distinct = λ _. rw e;
-    }
-
 module _ (names : List ℕ) (entries : List ℕ) (clear : Bool) (i : ℕ) (inv : Named names entries clear i) where
   module _ (k : ℕ) (s : i ≡ k + 1) where
     within : k < length names
@@ -58,14 +45,6 @@ module _ (names : List ℕ) (entries : List ℕ) (clear : Bool) (i : ℕ) (inv :
 
     here : drop k names ≡ get_or names k 0 ∷ drop i names
     here = rw (s, add-one) (drop-cons names k 0 within)
-
-    -- a number that is no name
-    pub named_not : valid_name (get_or names k 0) ≡ false → false ≡ good_names names
-    named_not q = go (list_all valid_name names) refl
-      where
-        go : (b : Bool) → list_all valid_name names ≡ b → false ≡ (b && all_distinct names)
-        go false e = refl
-        go true e = absurd (false≢true (sym q ∙ all_at valid_name names k 0 e within))
 
     module _ (e : ℕ) (q : e ≡ get_or names k 0 % 167) (l : e < 167) where
       -- a free entry is that of none of the names behind
@@ -94,7 +73,7 @@ module _ (names : List ℕ) (entries : List ℕ) (clear : Bool) (i : ℕ) (inv :
             told = λ j a b. at j a b (eqb (get_or names j 0 % 167) e) refl;
             distinct =
                 λ c.
-                let d = both clear (eqb (get_or entries e 0) 24) c in
+                let d = and_parts clear (eqb (get_or entries e 0) 24) c in
                 rw (here, fresh (eqb-true (get_or entries e 0) 24 d.1)) (inv.distinct d.0);
           }
         where
@@ -108,16 +87,33 @@ module _ (names : List ℕ) (entries : List ℕ) (clear : Bool) (i : ℕ) (inv :
               go true g = absurd (eqb-false _ e f (ap (λ (x : ℕ). get_or names x 0 % 167) (eqb-true j k g) ∙ sym q))
               go false g = let z = eqb-false j k g in omega arith
 
-  -- all are passed
-  module _ (z : i ≡ 0) where
-    pub named_all : list_all valid_name names ≡ true
-    named_all = rw z at inv.valid
+-- ---- the names that the loop has not seen are the first ones
+pub record Walked (names : List ℕ) (entries : List ℕ) (clear : Bool) (rest : List ℕ) : Type 0 where
+  pub named : Named names entries clear (length rest)
+  pub front : rest ≡ take (length rest) names
 
-    pub named_clear : clear ≡ true → true ≡ good_names names
-    named_clear c = sym (rw (named_all, rw z at (inv.distinct c)))
+module _ (names : List ℕ) (entries : List ℕ) (clear : Bool) (rest : List ℕ) (w : Walked names entries clear rest) (t : List ℕ) (x : ℕ) (p : rest ≡ t ++ (x ∷ [])) where
+  longer : length rest ≡ length t + 1
+  longer = ap length p ∙ length-append t (x ∷ [])
 
-    pub named_told : IndexOf names entries
-    named_told j h = inv.told j (omega arith) h
+  last : get_or names (length t) 0 ≡ x
+  last =
+      sym (get_or-take (length rest) names (length t) 0 (omega (arith, longer)))
+      ∙ ap (λ (l : List ℕ). get_or l (length t) 0) (sym w.front ∙ p)
+      ∙ get_or_at t x [] 0 (length t) refl
+
+  before : t ≡ take (length t) names
+  before =
+      sym (take-append-le (length t) t (x ∷ []) (omega arith) ∙ take_all (length t) t (omega arith))
+      ∙ ap (take (length t)) (sym p ∙ w.front)
+      ∙ take-take (length t) (length rest) names (omega (arith, longer))
+
+  pub walked_more : (k e : ℕ) → k ≡ length t → e ≡ x % 167 → e < 167 → valid_name x ≡ true → Walked names (set entries e k) (clear && eqb (get_or entries e 0) 24) t
+  walked_more k e s q l v =
+      record {
+        named = rw s (named_more names entries clear (length rest) w.named (length t) longer e (q ∙ ap (λ (y : ℕ). y % 167) (sym last)) l (rw last v));
+        front = before;
+      }
 
 -- ---- an entry that has the name is its place
 pub place_told : (names : List ℕ) (entries : List ℕ) → IndexOf names entries → (w p : ℕ) → p ≡ get_or entries (w % 167) 0 → p < length names → get_or names p 0 ≡ w → Some p ≡ position (λ (x : ℕ). eqb x w) names

@@ -12,8 +12,8 @@ use lib.Seq.{slice, length-take-le, take-take, get_or-take}
 use Rattle.std.specs.Prelude.{Some, None, slice_range}
 use Rattle.lists.specs.Lists.{elem, all_distinct, chunks, total}
 use Rattle.std.specs.List.{list_all, list_any}
-use Rattle.lists.proofs.Chunks.{slice_take, slice_front}
-use Rattle.lists.proofs.Takes.{map_take}
+use Rattle.std.proofs.lemmas.List.{drop-take, take-map}
+use Rattle.lists.proofs.Chunks.{slice_front}
 use Rattle.layout.specs.declared.Layout.{Layout}
 use Rattle.layout.specs.Channels.{channels_of, channel_name, active, active_names, no_channel}
 use Rattle.layout.specs.Topology.{rows_of, used_layers, used_rows, used_anchors, layer_count, layer_z, row_count, row_y, anchor_name, anchor_x}
@@ -55,14 +55,14 @@ module _ (key : List ℕ) (long : length key ≡ 156) where
   part_is : (a n : ℕ) → part a n ≡ slice a (a + n) key
   part_is a n =
       let e : a + n - a ≡ n = omega arith in
-      ap (λ (m : ℕ). take m (drop a key)) e ∙ sym (slice_take a n key)
+      ap (λ (m : ℕ). take m (drop a key)) e ∙ sym (drop-take a n key)
 
   part_front : (a n most : ℕ) → n ≤ most → part a n ≡ take n (slice a (a + most) key)
   part_front a n most h = part_is a n ∙ sym (slice_front key a n most h)
 
   -- ---- question 1
   names : (n : ℕ) → n ≤ 24 → map channel_name (take n l.channels) ≡ take n key
-  names n h = map_take channel_name n l.channels ∙ ap (take n) (names_are key long) ∙ take-take n 24 key h
+  names n h = sym (take-map channel_name n l.channels) ∙ ap (take n) (names_are key long) ∙ take-take n 24 key h
 
   module _ (u : from_to 1 24 used ≡ true) where
     few : used ≤ 24
@@ -81,9 +81,9 @@ module _ (key : List ℕ) (long : length key ≡ 156) where
         any_map (λ (f : ℕ). eqb f 1) (part 24 used)
         ∙ ap (list_any (λ (b : Bool). b))
         (ap (map (λ (f : ℕ). eqb f 1)) (part_front 24 used 24 few)
-        ∙ map_take (λ (f : ℕ). eqb f 1) used (slice 24 48 key)
+        ∙ sym (take-map (λ (f : ℕ). eqb f 1) used (slice 24 48 key))
         ∙ ap (take used) (sym (actives_are key long))
-        ∙ sym (map_take active used l.channels)
+        ∙ take-map active used l.channels
         ∙ ap (λ (n : ℕ). map active (take n l.channels)) (sym (used_is key long)))
         ∙ sym (any_map active (channels_of l))
 
@@ -94,7 +94,7 @@ module _ (key : List ℕ) (long : length key ≡ 156) where
 
       layer_counts_lem : part 48 depth ≡ map layer_count (used_layers l)
       layer_counts_lem =
-          part_front 48 depth 4 shallow ∙ ap (take depth) (sym (layer_counts_are key long)) ∙ sym (map_take layer_count depth l.layers) ∙ ap (λ (n : ℕ). map layer_count (take n l.layers)) (sym (depth_is key long))
+          part_front 48 depth 4 shallow ∙ ap (take depth) (sym (layer_counts_are key long)) ∙ take-map layer_count depth l.layers ∙ ap (λ (n : ℕ). map layer_count (take n l.layers)) (sym (depth_is key long))
 
       pub rows_no : counted 6 (part 48 depth) ≡ None → question4 l ≡ false
       rows_no r =
@@ -115,7 +115,7 @@ module _ (key : List ℕ) (long : length key ≡ 156) where
         rows_total = (sum_few 6 rows cs rows_counted few_rows).1
 
         row_counts_lem : part 52 rows ≡ map row_count (take rows l.rows)
-        row_counts_lem = part_front 52 rows 24 few_rows ∙ ap (take rows) (sym (row_counts_are key long)) ∙ sym (map_take row_count rows l.rows)
+        row_counts_lem = part_front 52 rows 24 few_rows ∙ ap (take rows) (sym (row_counts_are key long)) ∙ take-map row_count rows l.rows
 
         question4_by : leb (counted_to 24 (part 52 rows)) 24 ≡ question4 l
         question4_by = ap (λ (ns : List ℕ). leb (counted_to 24 ns) 24) row_counts_lem ∙ question4_is l rows rows_counted few_rows
@@ -151,9 +151,9 @@ module _ (key : List ℕ) (long : length key ≡ 156) where
           zs : map double (part 100 depth) ≡ map layer_z (used_layers l)
           zs =
               ap (map double) (part_front 100 depth 4 shallow)
-              ∙ map_take double depth (slice 100 104 key)
+              ∙ sym (take-map double depth (slice 100 104 key))
               ∙ ap (take depth) (sym (zs_are key long))
-              ∙ sym (map_take layer_z depth l.layers)
+              ∙ take-map layer_z depth l.layers
               ∙ ap (λ (n : ℕ). map layer_z (take n l.layers)) (sym (depth_is key long))
 
           ys : chunks (part 48 depth) (map double (part 104 24)) ≡ chunks cs (map row_y l.rows)
@@ -173,7 +173,7 @@ module _ (key : List ℕ) (long : length key ≡ 156) where
           -- ---- question 6
           anchor_names_lem : part 76 anchors ≡ map anchor_name (used_anchors l)
           anchor_names_lem =
-              part_front 76 anchors 24 few_anchors ∙ ap (take anchors) (sym (anchor_names_are key long)) ∙ sym (map_take anchor_name anchors l.anchors) ∙ ap (λ (n : ℕ). map anchor_name (take n l.anchors)) anchors_total
+              part_front 76 anchors 24 few_anchors ∙ ap (take anchors) (sym (anchor_names_are key long)) ∙ take-map anchor_name anchors l.anchors ∙ ap (λ (n : ℕ). map anchor_name (take n l.anchors)) anchors_total
 
           pub question6_by : all_distinct (take used key) ≡ true → all_active_names (take used key) (part 24 used) (part 76 anchors) ≡ question6 l
           unfolding question6

@@ -10,16 +10,11 @@ use doubles::of_bits;
 pub(crate) fn all_distinct(v: &[u64]) -> bool
     ensures { result ≡ all_distinct v.now }
 {
-    for i in 0..v.len() {
-        if v[..i].contains(&v[i]) {
-            return false;
-        }
-    }
-    true
+    v.iter().enumerate().all(|(i, x)| !v[..i].contains(x))
 }
 
 // Whether the doubles of v are finite, from -1 to 1 and strictly ascending. Of those that ascend, the
-// first is the least and the last the greatest.
+// first is the least and the last the greatest. By `is_sorted_by` each pattern would be made a double twice.
 pub(crate) fn is_ordered(v: &[u64]) -> bool
     ensures { result ≡ ordered (map double v.now) }
 {

@@ -15,7 +15,8 @@ pub(crate) fn any_active(flags: &[u64]) -> bool
     flags.iter().any(|f| *f == 1)
 }
 
-// The sum of counts that are from 1 to `most` each and at most 24 together.
+// The sum of counts that are from 1 to `most` each and at most 24 together. Each is tested before it is
+// added, so that the sum stays small.
 pub(crate) fn counted(counts: &[u64], most: u64) -> Option<usize>
     requires { (length counts.now ≤ 24) × (most ≤ 24) }
     ensures { result ≡ counted most counts.now }
@@ -30,7 +31,8 @@ pub(crate) fn counted(counts: &[u64], most: u64) -> Option<usize>
     (total <= 24).then_some(total)
 }
 
-// Whether each of the runs of doubles with these lengths, one behind the other, is ordered.
+// Whether each of the runs of doubles with these lengths, one behind the other, is ordered. Runs of unequal
+// lengths are no chunks, so each is cut off what is left.
 fn runs_ordered(mut runs: &[u64], lengths: &[u64]) -> bool
     requires { total lengths.now ≤ length runs.now }
     ensures { result ≡ runs_ordered runs.now lengths.now }

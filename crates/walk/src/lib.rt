@@ -36,7 +36,8 @@ pub fn anchor_names(l: Layout) -> [u64; 24]
     l.anchors.map(|a| a.name)
 }
 
-// The place, among the active channels, of the channel that each anchor names.
+// The place, among the active channels, of the channel that each anchor names; where none has that name, how
+// many there are: plain numbers in the array that callers read, as `anchor_index` says.
 pub fn anchor_indices(l: Layout) -> [usize; 24]
     ensures { result ≡ map (anchor_index l) l.anchors }
 {

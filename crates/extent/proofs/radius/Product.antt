@@ -13,7 +13,7 @@ use lib.Ieee.Fits.{down_pos, and_l, and_r}
 use Rattle.doubles.specs.Arithmetic.{◌⊗◌, from_int, one64, zero64}
 use Rattle.doubles.specs.Range.{is_between}
 use Rattle.doubles.proofs.Magnitude.{small_enough, low_enough, unit_pow}
-use Rattle.extent.proofs.Tests.{at_least}
+use Rattle.doubles.proofs.Order.{lt_or_eq}
 
 -- ---- a value up to 1 times 2 ^ p is exact
 module _ (f : Format) (s : Bool) (m : ℕ) (e : ℤ) (h : T (fits f (fin s m e))) (most : m * up e ≤ down e) (p : ℕ) (room : p ≤ emax f) where
@@ -52,7 +52,7 @@ minus_zero_lem m e h =
 pub at_most_one : (s : Bool) (m : ℕ) (e : ℤ) → T (is_between zero64 one64 (fin s m e)) → m * up e ≤ down e
 unfolding le lt eq
 at_most_one true m e h = le_trans (le_of_eq (minus_zero_lem m e h)) zero-le
-at_most_one false m e h = let l = at_least (m * up e * 1) (1 * 1 * down e) true (and_r (le zero64 (fin false m e)) (le (fin false m e) one64) h) in omega arith
+at_most_one false m e h = let l = lt_or_eq (m * up e * 1) (1 * 1 * down e) (and_r (le zero64 (fin false m e)) (le (fin false m e) one64) h) in omega arith
 
 scale_is : from_int (pos 32768) ≡ fin false 1 (pos 15)
 unfolding of_int round

@@ -9,8 +9,8 @@ use Rattle.layout.specs.Channels.{channels_of, active, channel_name}
 use Rattle.channels.proofs.Written.{covered_is}
 use Rattle.channels.proofs.channels.active_count.Goals as goal
 
-pub returns : goal.returns
-returns c =
+pub returns-clause-value : goal.returns-clause-value
+returns-clause-value c =
     let l = c.args.l in
     let used = channels_of l in
     let counted : c.count.result ≡ count_by active (take c.covered.result l.channels) = search (rules, chains) in

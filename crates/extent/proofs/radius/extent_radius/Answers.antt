@@ -1,27 +1,25 @@
--- Knot by knot.
-use mathlib.Core.Path.{◌≡◌, sym, ◌∙◌}
-use native.Mathlib.Omega.{arith}
+-- By the place of the first knot that the clamped scalar does not exceed.
+use mathlib.Core.Path.{sym, ap, ◌∙◌}
+use Prim.Native.Nat.{ℕ}
 use lib.Ieee.{of_bits, round}
-use Rattle.extent.proofs.radius.Transfer.{clamped, here, past, past_first}
+use Rattle.std.specs.Prelude.{Option}
+use Rattle.extent.proofs.radius.Transfer.{clamped, at_place, between_at, by_place}
 use Rattle.extent.proofs.radius.extent_radius.Goals as goal
 
-pub returns-then-s : goal.returns-then-s
+pub returns-in-Some-eq0 : goal.returns-in-Some-eq0
 unfolding of_bits round
-returns-then-s c = rw (← clamped _ _ c.clamp-s.ensures, c.if-s.true)
-
-pub returns-then-s-i : goal.returns-then-s-i
-unfolding of_bits round
-returns-then-s-i c =
+returns-in-Some-eq0 c =
     let s = c.clamp-s.result in
-    c.between.ensures ∙ sym (here s c.loop-i.i c.loop-i-test.true c.if-s-i.true) ∙ c.loop-i.invariant ∙ past_first s c.if-s.false ∙ clamped _ _ c.clamp-s.ensures
+    ap (λ (r : Option ℕ). at_place r s) (sym (rw c.in-Some-eq0.field-0-test at c.in-Some-eq0.is) ∙ c.first_from.ensures) ∙ by_place s ∙ clamped _ _ c.clamp-s.ensures
 
-pub returns : goal.returns
+pub returns-in-Some : goal.returns-in-Some
 unfolding of_bits round
-returns c =
+returns-in-Some c =
     let s = c.clamp-s.result in
-    let i : c.loop-i.i ≡ 4 = omega arith in
-    rw i at c.loop-i.invariant ∙ past_first s c.if-s.false ∙ clamped _ _ c.clamp-s.ensures
+    c.between.ensures ∙ between_at c.in-Some.i s c.in-Some.i-test.1 ∙ ap (λ (r : Option ℕ). at_place r s) (sym c.in-Some.is ∙ c.first_from.ensures) ∙ by_place s ∙ clamped _ _ c.clamp-s.ensures
 
-pub loop-i-preserved : goal.loop-i-preserved
+pub returns-in-None : goal.returns-in-None
 unfolding of_bits round
-loop-i-preserved c = sym (past c.clamp-s.result c.loop-i.i c.loop-i-test.true c.if-s-i.false) ∙ c.loop-i.invariant
+returns-in-None c =
+    let s = c.clamp-s.result in
+    ap (λ (r : Option ℕ). at_place r s) (sym c.in-None.is ∙ c.first_from.ensures) ∙ by_place s ∙ clamped _ _ c.clamp-s.ensures

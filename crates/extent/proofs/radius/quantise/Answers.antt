@@ -4,9 +4,9 @@ use Prim.Native.Nat.{ℕ, min}
 use mathlib.Core.Bool.{true}
 use lib.Dec.{T}
 use lib.Ieee.{round, of_int, of_bits}
+use Rattle.std.proofs.lemmas.Float.{T_from_true}
 use Rattle.doubles.specs.Arithmetic.{zero64, one64}
 use Rattle.doubles.specs.Range.{is_between}
-use Rattle.extent.proofs.Tests.{yes}
 use Rattle.extent.proofs.radius.Nearest.{Shows, component_shows, quantised_in, quantised_out}
 use Rattle.extent.proofs.radius.quantise.Goals as goal
 
@@ -16,7 +16,7 @@ unfolding of_bits
 inside c = sym c.is_between.ensures ∙ c.if-not-is_between.false
 
 shows : (c : goal.Else-not-is_between) → Shows c.args.v
-shows c = component_shows c.args.v (subst T (sym c.well_formed.0.1) tt) (yes (inside c))
+shows c = component_shows c.args.v (subst T (sym c.well_formed.0.1) tt) (T_from_true _ (inside c))
 
 pub returns-then-not-is_between : goal.returns-then-not-is_between
 unfolding of_bits

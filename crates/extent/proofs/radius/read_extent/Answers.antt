@@ -1,9 +1,9 @@
 -- `extent::radius::read_extent` meets its contract: the mean is a double. Assumes nothing.
 use mathlib.Core.Path.{sym, ◌∙◌}
+use Rattle.doubles.proofs.Floors.{casts}
 use native.Mathlib.Omega.{arith}
 use lib.Ieee.{of_bits, of_int, round}
 use Rattle.layout.proofs.RefusalLaws.{ok_says}
-use Rattle.extent.proofs.Casts.{casts}
 use Rattle.extent.proofs.radius.Ranges.{mean_le}
 use Rattle.extent.proofs.radius.read_extent.Goals as goal
 

@@ -2,7 +2,6 @@
 use Prim.Native.Nat.{min}
 use mathlib.Core.List.{map}
 use mathlib.Core.Path.{◌≡◌, ◌∙◌}
-use native.Mathlib.Omega.{arith}
 use borrow.Author.Rules.{rules}
 use lib.ListN.{length, length-take}
 use Rattle.lists.specs.Lists.{total}
@@ -21,9 +20,3 @@ pub returns : goal.returns
 returns c =
     let l = c.args.l in
     rw (c.anchor_starts.ensures, rows_are c) (starts_used row_count 24 (total (map layer_count (used_layers l))) l.rows l.anchors (search (rules, long)) (search (rules, long)))
-
-pub bounds-anchor_starts-row_total : goal.bounds-anchor_starts-row_total
-bounds-anchor_starts-row_total c = omega (arith, rows_are c)
-
-pub offset_bounds-anchor_starts-row_total : goal.offset_bounds-anchor_starts-row_total
-offset_bounds-anchor_starts-row_total c = omega (arith, rows_are c)

@@ -1,7 +1,5 @@
 -- The first i + 1 starts are written, and s is the last of them.
 use mathlib.Core.Path.{refl}
-use native.Mathlib.Omega.{arith}
-use Rattle.lists.proofs.Fill.{fill_done}
 use Rattle.layout.proofs.StartsFrom.{start_none, start_more}
 use Rattle.layout.proofs.starts.starts_from.Goals as goal
 
@@ -10,6 +8,3 @@ loop-i-init g c = start_none c.args.counts.now _ c.requires
 
 pub loop-i-preserved : goal.loop-i-preserved
 loop-i-preserved g c = start_more _ _ _ _ _ _ c.loop-i.invariant c.loop-i-test.true refl c.next_start-s.ensures
-
-pub returns : goal.returns
-returns g c = fill_done _ _ _ _ c.loop-i.invariant.written (omega (arith, c.loop-i-test.false))

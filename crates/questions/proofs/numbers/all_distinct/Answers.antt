@@ -1,21 +1,18 @@
--- Those that are passed are all different.
-use mathlib.Core.Path.{sym, ap, ◌∙◌}
-use mathlib.Core.Bool.{not}
-use lib.ListN.{take, get_or}
+-- Each is compared with those before it.
+use mathlib.Core.Path.{◌∙◌}
+use borrow.Author.Rules.{rules}
+use lib.ListN.{take}
+use Rattle.std.proofs.lemmas.Iterator.{YieldsList-from_slice}
+use Rattle.std.proofs.lemmas.Iterator.Consumers.{YieldsList-from_enumerate}
+use Rattle.std.proofs.lemmas.Iterator.Search.{all_from_yields_List}
 use Rattle.lists.proofs.Places.{elem_any}
-use Rattle.questions.proofs.Distinct.{front, front_not}
+use Rattle.questions.proofs.Distinct.{is_new, all_new}
 use Rattle.questions.proofs.numbers.all_distinct.Goals as goal
 
-pub returns-then-contains : goal.returns-then-contains
-returns-then-contains c =
+pub returns : goal.returns
+returns c =
     let v = c.args.v.now in
-    let i = c.loop-i.i in
-    let e = ap not (sym (elem_any (get_or v i 0) (take i v)) ∙ sym c.contains.ensures.value ∙ c.if-contains.true) in
-    sym (front_not v i c.loop-i-test.true (front v i c.loop-i-test.true c.loop-i.invariant ∙ e))
-
-pub loop-i-preserved : goal.loop-i-preserved
-loop-i-preserved c =
-    let v = c.args.v.now in
-    let i = c.loop-i.i in
-    let e = ap not (sym (elem_any (get_or v i 0) (take i v)) ∙ sym c.contains.ensures.value ∙ c.if-contains.false) in
-    front v i c.loop-i-test.true c.loop-i.invariant ∙ e
+    all_from_yields_List (is_new v) _ _ c.all.result c.all.ensures.ran
+    (YieldsList-from_enumerate (YieldsList-from_slice v (rw c.enumerate.ensures.source c.iter.ensures.rest)) c.enumerate.ensures.count)
+    (λ x b q k. search (rules, elem_any (x.1.now) (take x.0 v)))
+    ∙ all_new v
