@@ -1,19 +1,20 @@
 -- Laws of `patched`: a list with F at each index that W names, and the rest as it was. Assumes nothing.
 use Prim.Native.Nat.{ℕ, zero, suc, ◌+◌, ◌-◌, ◌≤◌, ◌<◌}
 use mathlib.Core.Path.{◌≡◌, refl, sym, ap, ◌∙◌}
-use mathlib.Core.Logic.{◌⊎◌, inl, inr, ⊎_elim}
-use mathlib.Core.Bool.{Bool, true, false, ◌&&◌, ◌||◌, cond, or_comm, true≢false}
+use mathlib.Core.Logic.{⊎_elim}
+use mathlib.Core.Bool.{Bool, true, false, ◌||◌, cond, or_comm, true≢false, ◌&&◌}
 use mathlib.Core.List.{List, [], ◌∷◌}
 use native.Mathlib.Nat.{zero-add, add-zero, le_of_suc-le-suc, not-suc-le-zero}
 use native.Mathlib.Omega.{arith}
-use borrow.Author.Tests.{ltb-true, ltb-false, leb-true, lt-ltb, le-leb, eqb-true, eqb-false}
+use borrow.Author.Tests.{ltb-true, ltb-false, leb-true, leb-false, lt-ltb, le-leb, eqb-true, eqb-false}
 use lib.Dec.{leb, ltb, eqb}
 use lib.Ieee.{Float, nan}
-use lib.ListN.{length, get_or, set, length-set}
-use lib.Seq.{ext_get_or, get_or-set_same, get_or-set_other}
-use borrow.Rule.Slice.PartMut.{put_mid}
+use lib.ListN.{length, get_or, drop, set, length-drop}
+use lib.Seq.{ext_get_or, get_or-set_same, get_or-set_other, get_or-drop}
+use borrow.Rule.Slice.PartMut.{mid_of, put_mid, mid_len}
 use borrow.Author.Rules.{rules}
 use Rattle.std.proofs.lemmas.List.{places}
+use Rattle.std.proofs.lemmas.Bool.{or_cases, or_left, or_right, and_parts}
 use Rattle.field.specs.Patched.{patched_from, patched, within, either}
 
 -- ---- tests
@@ -24,26 +25,8 @@ same_test true y f g = sym (f refl)
 same_test false true f g = g refl
 same_test false false f g = refl
 
-pub either_says : (x y : Bool) → (x || y) ≡ true → (x ≡ true) ⊎ (y ≡ true)
-either_says true y h = inl refl
-either_says false y h = inr h
-
-pub either_left : (x y : Bool) → x ≡ true → (x || y) ≡ true
-either_left true y h = refl
-either_left false true h = refl
-either_left false false h = h
-
-pub either_right : (x y : Bool) → y ≡ true → (x || y) ≡ true
-either_right true y h = refl
-either_right false y h = h
-
-both_says : (x y : Bool) → (x && y) ≡ true → (x ≡ true) × (y ≡ true)
-both_says true y h = (refl, h)
-both_says false true h = (h, refl)
-both_says false false h = (h, h)
-
 pub within_says : (a b i : ℕ) → within a b i ≡ true → (a ≤ i) × (i < b)
-within_says a b i h = let p = both_says (leb a i) (ltb i b) h in (leb-true a i p.0, ltb-true i b p.1)
+within_says a b i h = let p = and_parts (leb a i) (ltb i b) h in (leb-true a i p.0, ltb-true i b p.1)
 
 pub within_holds : (a b i : ℕ) → a ≤ i → i < b → within a b i ≡ true
 within_holds a b i h k = rw (le-leb a i h, lt-ltb i b k)
@@ -58,12 +41,12 @@ within_join a b c i h k =
     same_test (either (within a b) (within b c) i) (within a c i)
     (λ w.
     ⊎_elim (λ u. let p = within_says a b i u in within_holds a c i (omega arith) (omega arith)) (λ u. let p = within_says b c i u in within_holds a c i (omega arith) (omega arith))
-    (either_says (within a b i) (within b c i) w))
+    (or_cases (within a b i) (within b c i) w))
     (λ w. let p = within_says a c i w in part (ltb i b) refl p)
   where
     part : (t : Bool) → ltb i b ≡ t → (a ≤ i) × (i < c) → either (within a b) (within b c) i ≡ true
-    part true e p = either_left (within a b i) (within b c i) (within_holds a b i p.0 (ltb-true i b e))
-    part false e p = either_right (within a b i) (within b c i) (within_holds b c i (ltb-false i b e) p.1)
+    part true e p = or_left (within a b i) (within b c i) (within_holds a b i p.0 (ltb-true i b e))
+    part false e p = or_right (within a b i) (within b c i) (within_holds b c i (ltb-false i b e) p.1)
 
 -- ---- length and elements
 from_length : (i : ℕ) (W : ℕ → Bool) (F : ℕ → Float) (xs : List Float) → length (patched_from i W F xs) ≡ length xs
@@ -86,10 +69,6 @@ patched_length W F xs = from_length 0 W F xs
 pub get_or_patched : (W : ℕ → Bool) (F : ℕ → Float) (xs : List Float) (i : ℕ) (d : Float) → i < length xs → get_or (patched W F xs) i d ≡ cond (W i) (F i) (get_or xs i d)
 unfolding patched
 get_or_patched W F xs i d h = rw zero-add at (from_get_or 0 W F xs i d h)
-
--- what W names is F
-pub get_or_written : (W : ℕ → Bool) (F : ℕ → Float) (xs : List Float) (i : ℕ) (d : Float) → i < length xs → W i ≡ true → get_or (patched W F xs) i d ≡ F i
-get_or_written W F xs i d h e = rw e at (get_or_patched W F xs i d h)
 
 -- a list is a patched list where it has its length and its elements
 pub is_patched : (W : ℕ → Bool) (F : ℕ → Float) (xs ys : List Float) → length ys ≡ length xs → ((i : ℕ) → i < length xs → get_or ys i nan ≡ cond (W i) (F i) (get_or xs i nan)) → ys ≡ patched W F xs
@@ -145,62 +124,52 @@ pub within_none : (a : ℕ) (F : ℕ → Float) (xs : List Float) → patched (w
 within_none a F xs =
     patched_none (within a a) F xs (λ (i : ℕ) (k : i < length xs). within_fails a a i (λ h l. omega arith))
 
--- a store is a range of one
-store_is : (b : ℕ) (F : ℕ → Float) (xs : List Float) → set xs b (F b) ≡ patched (within b (b + 1)) F xs
-store_is b F xs =
-    is_patched (within b (b + 1)) F xs (set xs b (F b)) (length-set xs b (F b)) (λ (i : ℕ) (k : i < length xs). at i (eqb i b) refl k)
+-- the part from a up to b written
+pub part_patched : (a b : ℕ) (F : ℕ → Float) (xs ys : List Float) → a ≤ b → b ≤ length xs → length ys ≡ length (mid_of a (b - a) xs) → ((i : ℕ) → i < b - a → get_or ys i nan ≡ F (a + i)) → put_mid a (b - a) xs ys ≡ patched (within a b) F xs
+part_patched a b F xs ys m l k h =
+    is_patched (within a b) F xs (put_mid a (b - a) xs ys) (search (rules, places)) (λ (i : ℕ) (m : i < length xs). low i (ltb i a) refl m)
   where
-    at : (i : ℕ) (t : Bool) → eqb i b ≡ t → i < length xs → get_or (set xs b (F b)) i nan ≡ cond (within b (b + 1) i) (F i) (get_or xs i nan)
-    at i true e k =
-        let q : i ≡ b = eqb-true i b e in
-        rw (within_holds b (b + 1) i (omega arith) (omega arith), q) (get_or-set_same xs b (F b) nan (omega arith))
-    at i false e k =
-        rw (within_fails b (b + 1) i (λ h l. eqb-false i b e (omega arith))) (get_or-set_other xs b i (F b) nan (eqb-false i b e))
+    size : length ys ≡ b - a
+    size = k ∙ mid_len a b xs l
 
--- a part written, from a on
-pub part_patched : (a n : ℕ) (F : ℕ → Float) (xs ys : List Float) → a + n ≤ length xs → length ys ≡ n → ((i : ℕ) → i < n → get_or ys i nan ≡ F (a + i)) → put_mid a (a + n - a) xs ys ≡ patched (within a (a + n)) F xs
-part_patched a n F xs ys l k h =
-    let e : a + n - a ≡ n = omega arith in
-    is_patched (within a (a + n)) F xs (put_mid a (a + n - a) xs ys) (search (rules, places)) (λ (i : ℕ) (m : i < length xs). low i (ltb i a) refl m)
-  where
-    high : (i : ℕ) (t : Bool) → ltb i (a + n) ≡ t → a ≤ i → i < length xs → get_or (put_mid a (a + n - a) xs ys) i nan ≡ cond (within a (a + n) i) (F i) (get_or xs i nan)
+    high : (i : ℕ) (t : Bool) → ltb i b ≡ t → a ≤ i → i < length xs → get_or (put_mid a (b - a) xs ys) i nan ≡ cond (within a b i) (F i) (get_or xs i nan)
     high i true e g m =
-        let q : i < a + n = ltb-true i (a + n) e in
+        let q : i < b = ltb-true i b e in
         let d : a + (i - a) ≡ i = omega arith in
         let p : get_or ys (i - a) nan ≡ F i = rw d at (h (i - a) (omega arith)) in
-        rw (within_holds a (a + n) i g q) (grind (arith, places, p))
+        rw (within_holds a b i g q) (grind (arith, places, p, size))
     high i false e g m =
-        let q : a + n ≤ i = ltb-false i (a + n) e in
-        rw (within_fails a (a + n) i (λ _ w. omega arith)) (grind (arith, places))
+        let q : b ≤ i = ltb-false i b e in
+        rw (within_fails a b i (λ _ w. omega arith)) (grind (arith, places, size))
 
-    low : (i : ℕ) (t : Bool) → ltb i a ≡ t → i < length xs → get_or (put_mid a (a + n - a) xs ys) i nan ≡ cond (within a (a + n) i) (F i) (get_or xs i nan)
+    low : (i : ℕ) (t : Bool) → ltb i a ≡ t → i < length xs → get_or (put_mid a (b - a) xs ys) i nan ≡ cond (within a b i) (F i) (get_or xs i nan)
     low i true e m =
         let q : i < a = ltb-true i a e in
-        rw (within_fails a (a + n) i (λ w _. omega arith)) (grind (arith, places))
-    low i false e m = high i (ltb i (a + n)) refl (ltb-false i a e) m
+        rw (within_fails a b i (λ w _. omega arith)) (grind (arith, places, size))
+    low i false e m = high i (ltb i b) refl (ltb-false i a e) m
 
--- one more store
-pub within_more : (a b : ℕ) (F : ℕ → Float) (xs : List Float) → a ≤ b → set (patched (within a b) F xs) b (F b) ≡ patched (within a (b + 1)) F xs
-within_more a b F xs l =
-    store_is b F (patched (within a b) F xs)
-    ∙ patched_both (within b (b + 1)) (within a b) F xs
-    ∙ patched_where (either (within a b) (within b (b + 1))) (within a (b + 1)) F xs (λ (i : ℕ) (k : i < length xs). within_join a b (b + 1) i l (omega arith))
+-- what is written from a on
+pub tail_patched : (a : ℕ) (W : ℕ → Bool) (F : ℕ → Float) (xs : List Float) → a ≤ length xs → put_mid a (length xs - a) xs (patched W F (drop a xs)) ≡ patched (λ (i : ℕ). leb a i && W (i - a)) (λ (i : ℕ). F (i - a)) xs
+tail_patched a W F xs l =
+    is_patched (λ (i : ℕ). leb a i && W (i - a)) (λ (i : ℕ). F (i - a)) xs (put_mid a (length xs - a) xs tail) (grind (arith, places, size)) (λ (i : ℕ) (m : i < length xs). at i (leb a i) refl m)
+  where
+    tail : List Float
+    tail = patched W F (drop a xs)
 
--- a loop that writes g 0, g 1, .. from a on: nothing yet, and one more
-pub write_none : (a : ℕ) (g : ℕ → Float) (xs : List Float) → patched (within a (a + 0)) (λ (i : ℕ). g (i - a)) xs ≡ xs
-write_none a g xs = rw add-zero (within_none a (λ (i : ℕ). g (i - a)) xs)
+    size : length tail ≡ length xs - a
+    size = patched_length W F (drop a xs) ∙ length-drop a xs
 
-pub write_more : (a k : ℕ) (g : ℕ → Float) (xs : List Float) → set (patched (within a (a + k)) (λ (i : ℕ). g (i - a)) xs) (a + k) (g k) ≡ patched (within a (a + (k + 1))) (λ (i : ℕ). g (i - a)) xs
-write_more a k g xs =
-    let s : a + k + 1 ≡ a + (k + 1) = omega arith in
-    let d : a + k - a ≡ k = omega arith in
-    rw (s, d) at (within_more a (a + k) (λ (i : ℕ). g (i - a)) xs (omega arith))
-
--- one more by a copy of an earlier one
-pub copy_more : (a k j : ℕ) (g : ℕ → Float) (xs : List Float) (d : Float) → j < k → a + k ≤ length xs → g j ≡ g k → set (patched (within a (a + k)) (λ (i : ℕ). g (i - a)) xs) (a + k) (get_or (patched (within a (a + k)) (λ (i : ℕ). g (i - a)) xs) (a + j) d) ≡ patched (within a (a + (k + 1))) (λ (i : ℕ). g (i - a)) xs
-copy_more a k j g xs d h l q =
-    let e : a + j - a ≡ j = omega arith in
-    rw (get_or_written (within a (a + k)) (λ (i : ℕ). g (i - a)) xs (a + j) d (omega arith) (within_holds a (a + k) (a + j) (omega arith) (omega arith)), e, q) (write_more a k g xs)
+    at : (i : ℕ) (t : Bool) → leb a i ≡ t → i < length xs → get_or (put_mid a (length xs - a) xs tail) i nan ≡ cond (leb a i && W (i - a)) (F (i - a)) (get_or xs i nan)
+    at i true e m =
+        let q : a ≤ i = leb-true a i e in
+        let d : a + (i - a) ≡ i = omega arith in
+        let p : get_or tail (i - a) nan ≡ cond (W (i - a)) (F (i - a)) (get_or xs i nan) =
+        get_or_patched W F (drop a xs) (i - a) nan (rw length-drop (omega arith))
+        ∙ ap (λ (x : Float). cond (W (i - a)) (F (i - a)) x) (get_or-drop a xs (i - a) nan ∙ ap (λ (j : ℕ). get_or xs j nan) d) in
+        rw e (grind (arith, places, p, size))
+    at i false e m =
+        let q : i < a = leb-false a i e in
+        rw e (grind (arith, places, size))
 
 -- a loop that writes F 0, F 1, ..
 pub set_below : (F : ℕ → Float) (xs : List Float) (k : ℕ) → k < length xs → ((i : ℕ) → i < k → get_or xs i nan ≡ F i) → (i : ℕ) → i < k + 1 → get_or (set xs k (F k)) i nan ≡ F i
@@ -214,3 +183,7 @@ set_below F xs k l h i j = at (eqb i k) refl
       where
         below : (i ≡ k → ⊥) → i < k
         below n = omega arith
+
+-- one more by a value that is F there
+pub set_below_as : (F : ℕ → Float) (xs : List Float) (k : ℕ) (x : Float) → k < length xs → x ≡ F k → ((i : ℕ) → i < k → get_or xs i nan ≡ F i) → (i : ℕ) → i < k + 1 → get_or (set xs k x) i nan ≡ F i
+set_below_as F xs k x l e h i j = ap (λ (y : Float). get_or (set xs k y) i nan) e ∙ set_below F xs k l h i j

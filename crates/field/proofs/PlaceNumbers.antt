@@ -61,7 +61,7 @@ added_fits s name (w ∷ ws) h = added_fits (cond (eqb w.name name) (s ⊕ w.wei
     go true = add-fits s w.weight
     go false = h
 
-responses_fit : (a : Axis) (t : List TopologyLayer) (u : Float) (name : ℕ) → T (fits binary64 (response_on a t u name))
+pub responses_fit : (a : Axis) (t : List TopologyLayer) (u : Float) (name : ℕ) → T (fits binary64 (response_on a t u name))
 unfolding response_on
 responses_fit a t u name = added_fits zero64 name (weights_on a t u) (unfold fits in tt)
 

@@ -7,11 +7,13 @@ use native.Mathlib.Omega.{arith}
 use lib.Dec.{T}
 use lib.Ieee.{Float, nan}
 use lib.Ieee.Scale.{finite}
-use lib.ListN.{length, get_or, take, drop, length-map, take-append-drop, get_or-map}
+use lib.ListN.{length, get_or, take, drop, take-append-drop}
 use lib.Seq.{slice, slice_empty, take-take, drop-append-le, length-take-le, length-slice}
 use Rattle.lists.specs.Lists.{flatten}
 use Rattle.std.specs.List.{list_all}
+use Rattle.std.proofs.lemmas.List.{map-append, get_or-map as get_or_mapped}
 use Rattle.lists.proofs.Loops.{slice_more}
+use Rattle.lists.proofs.Chunks.{slice_map}
 use Rattle.layout.specs.declared.Anchor.{Anchor}
 use Rattle.layout.specs.Topology.{TopologyRow, TopologyLayer, anchor_x}
 use Rattle.layout.specs.Steps.Starts.{no_anchor}
@@ -21,16 +23,11 @@ use Rattle.field.specs.declared.Pick.{Pick}
 use Rattle.field.specs.Responses.{Weight, weights_of, alone, row_anchors, layer_anchors, row_weights_x, layer_weights_x, layer_weights_y, weights_on, pick_of, layer_pick}
 use Rattle.field.specs.Steps.Flat.{pick_added, response_added, pick_end, Grouped}
 use Rattle.field.proofs.ResponseRows.{weights_added, named}
-use Rattle.field.proofs.ResponseSpread.{placed, active_anchor, slice_active, map_slice, gathered, gathered_same, gathered_concat, groups_added, groups_named, pick_added_lem, pick_named}
+use Rattle.field.proofs.ResponseSpread.{placed, active_anchor, slice_active, gathered, gathered_same, gathered_concat, groups_added, groups_named, pick_added_lem, pick_named}
 use Rattle.field.proofs.response.Picks.{get_or_slice, moved_none}
 
 -- ---- lists
 module _ {A : Type 0} where
-  get_or_any : (xs : List A) (i : ℕ) (d e : A) → i < length xs → get_or xs i d ≡ get_or xs i e
-  get_or_any [] i d e h = absurd (omega arith)
-  get_or_any (x ∷ xs) zero d e h = refl
-  get_or_any (x ∷ xs) (suc i) d e h = get_or_any xs i d e (omega arith)
-
   -- one of a list
   slice_one : (xs : List A) (i : ℕ) (d : A) → i < length xs → slice i (i + 1) xs ≡ get_or xs i d ∷ []
   slice_one xs i d h = slice_more i (i + 1) xs d (omega arith) (omega arith) ∙ ap (λ (r : List A). get_or xs i d ∷ r) (slice_empty (i + 1) xs)
@@ -48,14 +45,6 @@ module _ {A : Type 0} where
   concat_append : (xss yss : List (List A)) → flatten (xss ++ yss) ≡ flatten xss ++ flatten yss
   concat_append [] yss = refl
   concat_append (xs ∷ xss) yss = ap (λ (r : List A). xs ++ r) (concat_append xss yss) ∙ sym (append_assoc xs (flatten xss) (flatten yss))
-
-map-append : {A B : Type 0} (f : A → B) (xs ys : List A) → map f (xs ++ ys) ≡ map f xs ++ map f ys
-map-append f [] ys = refl
-map-append {B = B} f (x ∷ xs) ys = ap (λ (r : List B). f x ∷ r) (map-append f xs ys)
-
--- the i-th of a list that a function made
-pub get_or_mapped : {A B : Type 0} (f : A → B) (xs : List A) (i : ℕ) (d : A) (e : B) → i < length xs → get_or (map f xs) i e ≡ f (get_or xs i d)
-get_or_mapped f xs i d e h = get_or_any (map f xs) i e (f d) (rw (length-map xs f) h) ∙ get_or-map f xs i d
 
 -- ---- a topology and flat lists that say the same
 abbrev pub layer_rows : TopologyLayer → List TopologyRow
@@ -137,18 +126,18 @@ module _
       unfolding parts_x row_weights_x
       row_weights u g h =
           let e : slice (get_or starts g 0) (get_or starts (g + 1) 0) (map anchor_x anchors) ≡ map anchor_x (get_or (rows_in t) g no_topology_row).anchors =
-          map_slice anchor_x (get_or starts g 0) (get_or starts (g + 1) 0) anchors ∙ ap (map anchor_x) (sym (flat.row_cut g h)) in
+          slice_map anchor_x (get_or starts g 0) (get_or starts (g + 1) 0) anchors ∙ ap (map anchor_x) (sym (flat.row_cut g h)) in
           ap (λ (xs : List Float). weights_of (pick_of xs u) (map alone (get_or (rows_in t) g no_topology_row).anchors)) e
 
       module _ (u : Float) (f : T (finite u)) where
         all_x : gathered (λ (g : ℕ). weights_of (pick_of (slice (get_or starts g 0) (get_or starts (g + 1) 0) (map anchor_x anchors)) u) (parts_x g)) (length (rows_in t)) ≡ weights_on X t u
         all_x = gathered_same _ (λ (g : ℕ). row_weights_x u (get_or (rows_in t) g no_topology_row)) (length (rows_in t)) (row_weights u) ∙ sym (rows_x u t ∙ gathered_concat (row_weights_x u) (rows_in t) no_topology_row)
 
-        pub added_x : (base : ℕ) (out : List Float) →
-            response_added base (map (placed names) anchors) ones (map anchor_x anchors) starts (length (rows_in t)) u out ≡ weights_added base names (weights_on X t u) out
-        added_x base out =
-            groups_added names anchors ones (map anchor_x anchors) starts (length (rows_in t)) k parts_x are_x u f base (length (rows_in t)) out (le_refl (length (rows_in t)))
-            ∙ ap (λ (ws : List Weight). weights_added base names ws out) all_x
+        pub added_x : (out : List Float) →
+            response_added (map (placed names) anchors) ones (map anchor_x anchors) starts (length (rows_in t)) u out ≡ weights_added names (weights_on X t u) out
+        added_x out =
+            groups_added names anchors ones (map anchor_x anchors) starts (length (rows_in t)) k parts_x are_x u f (length (rows_in t)) out (le_refl (length (rows_in t)))
+            ∙ ap (λ (ws : List Weight). weights_added names ws out) all_x
 
         pub named_x : T (list_all (named names) (weights_on X t u))
         named_x =
@@ -188,7 +177,7 @@ module _
           let a = get_or row_starts g 0 in
           let b = get_or row_starts (g + 1) 0 in
           let e : slice a b ys ≡ map topology_y (get_or t g no_topology_layer).rows =
-          sym (slice_take a b (length (rows_in t)) ys (row_within g h)) ∙ ap (slice a b) (sym flat.y_cut) ∙ map_slice topology_y a b (rows_in t) ∙ ap (map topology_y) (sym (flat.layer_cut g h)) in
+          sym (slice_take a b (length (rows_in t)) ys (row_within g h)) ∙ ap (slice a b) (sym flat.y_cut) ∙ slice_map topology_y a b (rows_in t) ∙ ap (map topology_y) (sym (flat.layer_cut g h)) in
           ap (λ (xs : List Float). weights_of (pick_of xs u) (map row_anchors (get_or t g no_topology_layer).rows)) e
 
       module _ (u : Float) (f : T (finite u)) where
@@ -196,9 +185,9 @@ module _
         unfolding weights_on
         all_y = gathered_same _ (λ (g : ℕ). layer_weights_y u (get_or t g no_topology_layer)) (length t) (layer_weights u) ∙ sym (gathered_concat (layer_weights_y u) t no_topology_layer)
 
-        pub added_y : (base : ℕ) (out : List Float) → response_added base (map (placed names) anchors) starts ys row_starts (length t) u out ≡ weights_added base names (weights_on Y t u) out
-        added_y base out =
-            groups_added names anchors starts ys row_starts (length t) k parts_y are_y u f base (length t) out (le_refl (length t)) ∙ ap (λ (ws : List Weight). weights_added base names ws out) all_y
+        pub added_y : (out : List Float) → response_added (map (placed names) anchors) starts ys row_starts (length t) u out ≡ weights_added names (weights_on Y t u) out
+        added_y out =
+            groups_added names anchors starts ys row_starts (length t) k parts_y are_y u f (length t) out (le_refl (length t)) ∙ ap (λ (ws : List Weight). weights_added names ws out) all_y
 
         pub named_y : T (list_all (named names) (weights_on Y t u))
         named_y =
@@ -246,11 +235,11 @@ module _
             (active_part (get_or starts (get_or row_starts i 0) 0) (get_or starts (get_or row_starts (i + 1) 0) 0)
             (start_end (get_or row_starts (i + 1) 0) (length (rows_in t)) (le_trans (row_start_end (i + 1) (length t) (omega arith) (le_refl (length t))) flat.rows_within) (le_refl (length (rows_in t)))))
 
-        pub added_z : (base : ℕ) (u : Float) (out : List Float) → pick_end (layer_pick (take depth zs) u) ≤ depth → pick_added base (map (placed names) anchors) layer_starts (layer_pick (take depth zs) u) out ≡ weights_added base names (weights_on Z t u) out
+        pub added_z : (u : Float) (out : List Float) → pick_end (layer_pick (take depth zs) u) ≤ depth → pick_added (map (placed names) anchors) layer_starts (layer_pick (take depth zs) u) out ≡ weights_added names (weights_on Z t u) out
         unfolding weights_on
-        added_z base u out h =
-            ap (λ (p : Pick). pick_added base (map (placed names) anchors) layer_starts p out) (sym (moved_none (layer_pick (take depth zs) u)))
-            ∙ pick_added_lem names anchors layer_starts 0 depth (map layer_anchors t) are_z base (layer_pick (take depth zs) u) out h
+        added_z u out h =
+            ap (λ (p : Pick). pick_added (map (placed names) anchors) layer_starts p out) (sym (moved_none (layer_pick (take depth zs) u)))
+            ∙ pick_added_lem names anchors layer_starts 0 depth (map layer_anchors t) are_z (layer_pick (take depth zs) u) out h
             ∙ rw (← zCut)
 
         pub named_z : (u : Float) → pick_end (layer_pick (take depth zs) u) ≤ depth → T (list_all (named names) (weights_on Z t u))

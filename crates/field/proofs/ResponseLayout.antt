@@ -1,5 +1,5 @@
 -- The flat lists of an accepted layout keep to what the code asks, and what it leaves are the responses of the layout's topology. Assumes nothing.
-use Prim.Native.Nat.{ℕ, suc, ◌+◌, ◌-◌, ◌*◌, ◌≤◌, ◌<◌, min}
+use Prim.Native.Nat.{ℕ, suc, ◌+◌, ◌-◌, ◌≤◌, ◌<◌, min}
 use mathlib.Core.Path.{◌≡◌, refl, sym, ap, ◌∙◌}
 use mathlib.Core.Bool.{Bool, true, false, not, ◌||◌, cond}
 use mathlib.Core.List.{List, [], ◌∷◌, map}
@@ -17,7 +17,7 @@ use Rattle.doubles.specs.Range.{is_between}
 use Rattle.lists.specs.Lists.{elem, all_distinct, total, chain}
 use Rattle.std.specs.List.{list_all, filter, range_with_len}
 use Rattle.std.proofs.lemmas.List.FromFn.{get_or-range_with_len}
-use Rattle.lists.proofs.Takes.{map_take}
+use Rattle.std.proofs.lemmas.List.{take-map, get_or-map as get_or_mapped}
 use Rattle.layout.specs.declared.Layout.{Layout}
 use Rattle.layout.specs.Steps.Accepted.{Accepted}
 use Rattle.layout.specs.Channels.{active, channel_name, channels_of, active_names, active_count}
@@ -27,12 +27,12 @@ use Rattle.layout.specs.Steps.Starts.{starts_from, anchor_starts, row_starts, la
 use Rattle.layout.proofs.TopologyStarts.{rows_take, rows_length}
 use Rattle.layout.proofs.TopologyFlat.{topology_rows_lem, topology_y_lem, topology_z_lem, topology_length, topology_layer, topology_row}
 use Rattle.layout.proofs.TopologyRanges.{row_rises, row_end, row_most, anchor_rises, anchor_end, anchor_most}
-use Rattle.field.specs.Knots.{X, Y, Z, sample}
+use Rattle.field.specs.Knots.{Axis, X, Y, Z, sample}
 use Rattle.field.specs.Responses.{response_on, weights_on, layer_pick}
-use Rattle.field.specs.Steps.Flat.{pick_end, response_added, responded, responded_z, Parted, Grouped}
-use Rattle.field.proofs.ResponseRows.{weights_added, place_within, rows_hold}
+use Rattle.field.specs.Steps.Flat.{pick_end, pick_added, response_added, Parted, Grouped}
+use Rattle.field.proofs.ResponseRows.{weights_added, place_within, named, row_holds}
 use Rattle.field.proofs.ResponseSpread.{all_in}
-use Rattle.field.proofs.ResponseAxes.{Flat, rows_in, no_topology_row, no_topology_layer, slice_take, get_or_mapped, rising_to_lem, added_x, named_x, added_y, named_y, added_z, named_z}
+use Rattle.field.proofs.ResponseAxes.{Flat, rows_in, no_topology_row, no_topology_layer, slice_take, rising_to_lem, added_x, named_x, added_y, named_y, added_z, named_z}
 use Rattle.field.proofs.ResponseSamples.{sample_finite}
 use Rattle.field.proofs.response.Picks.{get_or_slice, layers_pick_end}
 
@@ -121,7 +121,7 @@ module _ (l : Layout) (layers : length l.layers ≡ 4) (rows : length l.rows ≡
             rw (rows_in_lem, add-one)
             (ap (λ (t : TopologyLayer). t.rows) (topology_layer l layers rows anchors few i no_topology_layer (omega arith))
             ∙ sym (slice_take (get_or (row_starts l) i 0) (get_or (row_starts l) (suc i) 0) row_total (rows_of l.rows l.anchors) (row_most l layers rows a (suc i) (omega arith))));
-        y_cut = rw n (ap (map topology_y) rows_in_lem ∙ map_take topology_y row_total (rows_of l.rows l.anchors) ∙ ap (take row_total) (topology_y_lem l));
+        y_cut = rw n (ap (map topology_y) rows_in_lem ∙ sym (take-map topology_y row_total (rows_of l.rows l.anchors)) ∙ ap (take row_total) (topology_y_lem l));
         rise = λ r h. rw add-one (le_of_lt (anchor_rises l layers rows a r (omega arith)));
         within = rw n (omega (arith, anchor_end l layers rows a));
         rows_rise = λ i h. rw add-one (le_of_lt (row_rises l layers rows a i (omega arith)));
@@ -235,38 +235,29 @@ module _ (l : Layout) (layers : length l.layers ≡ 4) (rows : length l.rows ≡
   topology_grouped_y : Grouped (map row_y l.rows) (row_starts l) (length (topology_of l))
   topology_grouped_y = rw depth_is y_grouped
 
-  adds_x : (i : ℕ) → i < 20 → (out : List Float) →
-      response_added (i * 24) (map (anchor_index l) l.anchors) ones (map anchor_x l.anchors) (anchor_starts l) row_total (sample X i) out ≡ weights_added (i * 24) (active_names l) (weights_on X (topology_of l) (sample X i)) out
-  adds_x i h out =
-      rw (← rows_count)
-      (added_x (active_names l) (topology_of l) l.anchors (anchor_starts l) (row_starts l) (map row_y l.rows) flat ones single_anchor topology_grouped_x (sample X i) (sample_finite X i h) (i * 24) out)
+  -- the row of a sample holds the sums of its weights
+  held : (a' : Axis) (s k : ℕ) (out : List Float) → T (list_all (named (active_names l)) (weights_on a' (topology_of l) (sample a' s))) → 24 ≤ length out → ((i : ℕ) → i < 24 → get_or out i nan ≡ zero64) → k < active_count l →
+      get_or (weights_added (active_names l) (weights_on a' (topology_of l) (sample a' s)) out) k nan ≡ response_on a' (topology_of l) (sample a' s) (get_or (active_names l) k 0)
+  unfolding response_on
+  held a' s k out t long zeros m =
+      let few = a.few_active in
+      row_holds (active_names l) names_distinct (weights_on a' (topology_of l) (sample a' s)) out t (omega arith) (λ i h. zeros i (omega arith)) k m
 
-  adds_y : (i : ℕ) → i < 20 → (out : List Float) →
-      response_added (i * 24) (map (anchor_index l) l.anchors) (anchor_starts l) (map row_y l.rows) (row_starts l) l.depth (sample Y i) out ≡ weights_added (i * 24) (active_names l) (weights_on Y (topology_of l) (sample Y i)) out
-  adds_y i h out =
-      ap (λ (n : ℕ). response_added (i * 24) (map (anchor_index l) l.anchors) (anchor_starts l) (map row_y l.rows) (row_starts l) n (sample Y i) out) (sym depth_is)
-      ∙ (added_y (active_names l) (topology_of l) l.anchors (anchor_starts l) (row_starts l) (map row_y l.rows) flat topology_grouped_y (sample Y i) (sample_finite Y i h) (i * 24) out)
+  module _ (out : List Float) (long : 24 ≤ length out) (zeros : (i : ℕ) → i < 24 → get_or out i nan ≡ zero64) where
+    pub responses_x_lem : (s k : ℕ) → s < 20 → k < active_count l →
+        get_or (response_added (map (anchor_index l) l.anchors) ones (map anchor_x l.anchors) (anchor_starts l) row_total (sample X s) out) k nan ≡ response_on X (topology_of l) (sample X s) (get_or (active_names l) k 0)
+    responses_x_lem s k h m =
+        let f = sample_finite X s h in
+        rw (← rows_count, added_x (active_names l) (topology_of l) l.anchors (anchor_starts l) (row_starts l) (map row_y l.rows) flat ones single_anchor topology_grouped_x (sample X s) f out)
+        (held X s k out (named_x (active_names l) (topology_of l) l.anchors (anchor_starts l) (row_starts l) (map row_y l.rows) flat ones single_anchor topology_grouped_x (sample X s) f) long zeros m)
 
-  module _ (out : List Float) where
-    pub responses_x_lem : 480 ≤ length out → ((i : ℕ) → i < 480 → get_or out i nan ≡ zero64) → (s k : ℕ) → s < 20 → k < active_count l →
-        get_or (responded (map (anchor_index l) l.anchors) ones (map anchor_x l.anchors) (anchor_starts l) row_total 20 out) (s * 24 + k) nan ≡ response_on X (topology_of l) (sample X s) (get_or (active_names l) k 0)
-    unfolding responded response_on
-    responses_x_lem long zeros s k h m =
-        rows_hold (active_names l) names_distinct a.few_active 20 (λ (i : ℕ). weights_on X (topology_of l) (sample X i))
-        (λ i j. named_x (active_names l) (topology_of l) l.anchors (anchor_starts l) (row_starts l) (map row_y l.rows) flat ones single_anchor topology_grouped_x (sample X i) (sample_finite X i j))
-        _
-        adds_x
-        out long zeros 20 s k (le_refl 20) h m
-
-    pub responses_y_lem : 480 ≤ length out → ((i : ℕ) → i < 480 → get_or out i nan ≡ zero64) → (s k : ℕ) → s < 20 → k < active_count l →
-        get_or (responded (map (anchor_index l) l.anchors) (anchor_starts l) (map row_y l.rows) (row_starts l) l.depth 20 out) (s * 24 + k) nan ≡ response_on Y (topology_of l) (sample Y s) (get_or (active_names l) k 0)
-    unfolding responded response_on
-    responses_y_lem long zeros s k h m =
-        rows_hold (active_names l) names_distinct a.few_active 20 (λ (i : ℕ). weights_on Y (topology_of l) (sample Y i))
-        (λ i j. named_y (active_names l) (topology_of l) l.anchors (anchor_starts l) (row_starts l) (map row_y l.rows) flat topology_grouped_y (sample Y i) (sample_finite Y i j))
-        _
-        adds_y
-        out long zeros 20 s k (le_refl 20) h m
+    pub responses_y_lem : (s k : ℕ) → s < 20 → k < active_count l →
+        get_or (response_added (map (anchor_index l) l.anchors) (anchor_starts l) (map row_y l.rows) (row_starts l) l.depth (sample Y s) out) k nan ≡ response_on Y (topology_of l) (sample Y s) (get_or (active_names l) k 0)
+    responses_y_lem s k h m =
+        let f = sample_finite Y s h in
+        ap (λ (n : ℕ). get_or (response_added (map (anchor_index l) l.anchors) (anchor_starts l) (map row_y l.rows) (row_starts l) n (sample Y s) out) k nan) (sym depth_is)
+        ∙ ap (λ (row : List Float). get_or row k nan) (added_y (active_names l) (topology_of l) l.anchors (anchor_starts l) (row_starts l) (map row_y l.rows) flat topology_grouped_y (sample Y s) f out)
+        ∙ held Y s k out (named_y (active_names l) (topology_of l) l.anchors (anchor_starts l) (row_starts l) (map row_y l.rows) flat topology_grouped_y (sample Y s) f) long zeros m
 
     z_end : (s : ℕ) → s < 8 → pick_end (layer_pick (take l.depth (map layer_z l.layers)) (sample Z s)) ≤ l.depth
     z_end s h =
@@ -274,15 +265,13 @@ module _ (l : Layout) (layers : length l.layers ≡ 4) (rows : length l.rows ≡
         let some = a.some_layers in
         layers_pick_end (map layer_z l.layers) l.depth (sample Z s) (omega (arith, length-map l.layers layer_z)) some (sample_finite Z s h) (z_finite 0 some)
 
-    pub responses_z_lem : 192 ≤ length out → ((i : ℕ) → i < 192 → get_or out i nan ≡ zero64) → (s k : ℕ) → s < 8 → k < active_count l →
-        get_or (responded_z (map (anchor_index l) l.anchors) (layer_starts l) (map layer_z l.layers) l.depth 8 out) (s * 24 + k) nan ≡ response_on Z (topology_of l) (sample Z s) (get_or (active_names l) k 0)
-    unfolding responded_z response_on
-    responses_z_lem long zeros s k h m =
-        rows_hold (active_names l) names_distinct a.few_active 8 (λ (i : ℕ). weights_on Z (topology_of l) (sample Z i))
-        (λ i j. named_z (active_names l) (topology_of l) l.anchors (anchor_starts l) (row_starts l) (map row_y l.rows) flat (map layer_z l.layers) l.depth (sym depth_is) (topology_z_lem l) (layer_starts l) layer_starts_lem (sample Z i) (z_end i j))
-        _
-        (λ i j o. added_z (active_names l) (topology_of l) l.anchors (anchor_starts l) (row_starts l) (map row_y l.rows) flat (map layer_z l.layers) l.depth (sym depth_is) (topology_z_lem l) (layer_starts l) layer_starts_lem (i * 24) (sample Z i) o (z_end i j))
-        out long zeros 8 s k (le_refl 8) h m
-      where
-        layer_starts_lem : (i : ℕ) → i ≤ length (topology_of l) → get_or (layer_starts l) i 0 ≡ get_or (anchor_starts l) (get_or (row_starts l) i 0) 0
-        layer_starts_lem i h = layer_start i (omega (arith, depth_is))
+    layer_starts_lem : (i : ℕ) → i ≤ length (topology_of l) → get_or (layer_starts l) i 0 ≡ get_or (anchor_starts l) (get_or (row_starts l) i 0) 0
+    layer_starts_lem i h = layer_start i (omega (arith, depth_is))
+
+    pub responses_z_lem : (s k : ℕ) → s < 8 → k < active_count l →
+        get_or (pick_added (map (anchor_index l) l.anchors) (layer_starts l) (layer_pick (take l.depth (map layer_z l.layers)) (sample Z s)) out) k nan ≡ response_on Z (topology_of l) (sample Z s) (get_or (active_names l) k 0)
+    responses_z_lem s k h m =
+        ap (λ (row : List Float). get_or row k nan)
+        (added_z (active_names l) (topology_of l) l.anchors (anchor_starts l) (row_starts l) (map row_y l.rows) flat (map layer_z l.layers) l.depth (sym depth_is) (topology_z_lem l) (layer_starts l) layer_starts_lem (sample Z s) out (z_end s h))
+        ∙ held Z s k out
+        (named_z (active_names l) (topology_of l) l.anchors (anchor_starts l) (row_starts l) (map row_y l.rows) flat (map layer_z l.layers) l.depth (sym depth_is) (topology_z_lem l) (layer_starts l) layer_starts_lem (sample Z s) (z_end s h)) long zeros m

@@ -1,7 +1,6 @@
--- Weights added one after another at the places of their channels in a row of `out`: each number becomes the sum that `added_up` says, and what lies outside the row stays. Assumes nothing.
-use Prim.Native.Nat.{ℕ, zero, suc, ◌+◌, ◌*◌, ◌≤◌, ◌<◌}
+-- Weights added one after another at the places of their channels in a row: each number becomes the sum that `added_up` says. Assumes nothing.
+use Prim.Native.Nat.{ℕ, zero, suc, ◌+◌, ◌≤◌, ◌<◌}
 use mathlib.Core.Path.{◌≡◌, refl, sym, ap, ◌∙◌}
-use mathlib.Core.Logic.{◌⊎◌, inl, inr, ⊎_elim}
 use mathlib.Core.Bool.{Bool, true, false, not, ◌||◌, cond}
 use mathlib.Core.List.{List, [], ◌∷◌, ◌++◌, append-nil}
 use native.Mathlib.Numerals.{one-add}
@@ -17,7 +16,6 @@ use Rattle.lists.specs.Lists.{elem, all_distinct, index_of}
 use Rattle.std.specs.List.{list_all}
 use Rattle.lists.proofs.Tests.{elem_place}
 use Rattle.field.specs.Responses.{Weight, added_up}
-use Rattle.field.specs.Steps.Flat.{iterate}
 
 -- ---- the place of a name in a list
 
@@ -54,12 +52,12 @@ place_at (x ∷ xs) (suc k) d h =
     rw (ne_eqb x (get_or xs k 0) other, place_at xs k (and_r (not (elem x xs)) (all_distinct xs) d) (omega arith), one-add k)
 
 -- ---- one weight after another
-abbrev pub weight_added : ℕ → List ℕ → Weight → List Float → List Float
-weight_added base names w out = set out (base + index_of w.name names) (get_or out (base + index_of w.name names) nan ⊕ w.weight)
+abbrev pub weight_added : List ℕ → Weight → List Float → List Float
+weight_added names w out = set out (index_of w.name names) (get_or out (index_of w.name names) nan ⊕ w.weight)
 
-abbrev pub weights_added : ℕ → List ℕ → List Weight → List Float → List Float
-weights_added base names [] out = out
-weights_added base names (w ∷ ws) out = weights_added base names ws (weight_added base names w out)
+abbrev pub weights_added : List ℕ → List Weight → List Float → List Float
+weights_added names [] out = out
+weights_added names (w ∷ ws) out = weights_added names ws (weight_added names w out)
 
 -- each weight's channel is one of the names
 abbrev pub named : List ℕ → Weight → Bool
@@ -70,12 +68,12 @@ unfolding added_up
 added_last s name [] w = refl
 added_last s name (x ∷ ws) w = added_last (cond (eqb x.name name) (s ⊕ x.weight) s) name ws w
 
-module _ (base : ℕ) (names : List ℕ) (distinct : T (all_distinct names)) (few : length names ≤ 24) where
+module _ (names : List ℕ) (distinct : T (all_distinct names)) where
   -- the row's numbers are the sums of the weights so far
   abbrev pub Row : List Weight → List Float → Type 0
-  Row done out = (k : ℕ) → k < length names → get_or out (base + k) nan ≡ added_up zero64 (get_or names k 0) done
+  Row done out = (k : ℕ) → k < length names → get_or out k nan ≡ added_up zero64 (get_or names k 0) done
 
-  pub row_step : (done : List Weight) (w : Weight) (out : List Float) → T (named names w) → base + 24 ≤ length out → Row done out → Row (done ++ (w ∷ [])) (weight_added base names w out)
+  row_step : (done : List Weight) (w : Weight) (out : List Float) → T (named names w) → length names ≤ length out → Row done out → Row (done ++ (w ∷ [])) (weight_added names w out)
   row_step done w out t h r k l = go (eqb p k) refl
     where
       p : ℕ
@@ -84,84 +82,33 @@ module _ (base : ℕ) (names : List ℕ) (distinct : T (all_distinct names)) (fe
       inside : p < length names
       inside = place_within w.name names t
 
-      here : get_or (weight_added base names w out) (base + p) nan ≡ added_up zero64 (get_or names p 0) (done ++ (w ∷ []))
+      here : get_or (weight_added names w out) p nan ≡ added_up zero64 (get_or names p 0) (done ++ (w ∷ []))
       here =
-          get_or-set_same out (base + p) (get_or out (base + p) nan ⊕ w.weight) nan (omega (arith, inside))
+          get_or-set_same out p (get_or out p nan ⊕ w.weight) nan (omega (arith, inside))
           ∙ ap (λ (x : Float). x ⊕ w.weight) (r p inside)
           ∙ sym (added_last zero64 (get_or names p 0) done w ∙ rw (eq-eqb w.name (get_or names p 0) (sym (place_holds w.name names t))))
 
-      go : (b : Bool) → eqb p k ≡ b → get_or (weight_added base names w out) (base + k) nan ≡ added_up zero64 (get_or names k 0) (done ++ (w ∷ []))
+      go : (b : Bool) → eqb p k ≡ b → get_or (weight_added names w out) k nan ≡ added_up zero64 (get_or names k 0) (done ++ (w ∷ []))
       go true e = rw (← eqb-true p k e) here
       go false e =
           let n = eqb-false p k e in
           let other : w.name ≡ get_or names k 0 → ⊥ = λ q. n (ap (λ (m : ℕ). index_of m names) q ∙ place_at names k distinct l) in
-          get_or-set_other out (base + p) (base + k) (get_or out (base + p) nan ⊕ w.weight) nan (λ q. n (omega arith))
+          get_or-set_other out p k (get_or out p nan ⊕ w.weight) nan (λ q. n (sym q))
           ∙ r k l
           ∙ sym (added_last zero64 (get_or names k 0) done w ∙ rw (ne_eqb w.name (get_or names k 0) other))
 
-  pub row_steps : (done ws : List Weight) (out : List Float) → T (list_all (named names) ws) → base + 24 ≤ length out → Row done out → Row (done ++ ws) (weights_added base names ws out)
+  row_steps : (done ws : List Weight) (out : List Float) → T (list_all (named names) ws) → length names ≤ length out → Row done out → Row (done ++ ws) (weights_added names ws out)
   row_steps done [] out t h r = rw (append-nil done) r
   row_steps done (w ∷ ws) out t h r =
       rw (← append_snoc done w ws)
-      (row_steps (done ++ (w ∷ [])) ws (weight_added base names w out) (and_r (named names w) (list_all (named names) ws) t) (rw length-set h)
+      (row_steps (done ++ (w ∷ [])) ws (weight_added names w out) (and_r (named names w) (list_all (named names) ws) t) (rw length-set h)
       (row_step done w out (and_l (named names w) (list_all (named names) ws) t) h r))
 
-  -- what lies outside the row stays
-  pub row_frame : (ws : List Weight) (out : List Float) (i : ℕ) → T (list_all (named names) ws) → (i < base) ⊎ (base + 24 ≤ i) → get_or (weights_added base names ws out) i nan ≡ get_or out i nan
-  row_frame [] out i t o = refl
-  row_frame (w ∷ ws) out i t o =
-      let inside = place_within w.name names (and_l (named names w) (list_all (named names) ws) t) in
-      let other : i ≡ base + index_of w.name names → ⊥ = λ e. ⊎_elim (λ h. omega arith) (λ h. omega arith) o in
-      row_frame ws (weight_added base names w out) i (and_r (named names w) (list_all (named names) ws) t) o
-      ∙ get_or-set_other out (base + index_of w.name names) i (get_or out (base + index_of w.name names) nan ⊕ w.weight) nan other
+  -- in a row of zeros they are the sums of all weights
+  pub row_holds : (ws : List Weight) (out : List Float) → T (list_all (named names) ws) → length names ≤ length out → ((k : ℕ) → k < length names → get_or out k nan ≡ zero64) → Row ws (weights_added names ws out)
+  unfolding added_up
+  row_holds ws out t h zeros = row_steps [] ws out t h zeros
 
-pub weights_length : (base : ℕ) (names : List ℕ) (ws : List Weight) (out : List Float) → length (weights_added base names ws out) ≡ length out
-weights_length base names [] out = refl
-weights_length base names (w ∷ ws) out = weights_length base names ws (weight_added base names w out) ∙ length-set out (base + index_of w.name names) (get_or out (base + index_of w.name names) nan ⊕ w.weight)
-
-pub weights_append : (base : ℕ) (names : List ℕ) (ws vs : List Weight) (out : List Float) → weights_added base names (ws ++ vs) out ≡ weights_added base names vs (weights_added base names ws out)
-weights_append base names [] vs out = refl
-weights_append base names (w ∷ ws) vs out = weights_append base names ws vs (weight_added base names w out)
-
--- ---- row after row, 24 numbers each: the row of sample s holds the sums of its weights
-module _
-    (names : List ℕ)
-    (distinct : T (all_distinct names))
-    (few : length names ≤ 24)
-    (N : ℕ)
-    (ws : ℕ → List Weight)
-    (every : (s : ℕ) → s < N → T (list_all (named names) (ws s)))
-    (add : ℕ → List Float → List Float)
-    (adds : (s : ℕ) → s < N → (out : List Float) → add s out ≡ weights_added (s * 24) names (ws s) out)
-    (out : List Float)
-    (long : N * 24 ≤ length out)
-  where
-    pub rows_length : (n : ℕ) → n ≤ N → length (iterate n add out) ≡ length out
-    unfolding iterate
-    rows_length zero h = refl
-    rows_length (suc n) h = ap length (adds n h (iterate n add out)) ∙ weights_length (n * 24) names (ws n) (iterate n add out) ∙ rows_length n (omega arith)
-
-    -- rows to come are as they were
-    rows_later : (n s k : ℕ) → n ≤ s → s < N → k < 24 → get_or (iterate n add out) (s * 24 + k) nan ≡ get_or out (s * 24 + k) nan
-    unfolding iterate
-    rows_later zero s k h l m = refl
-    rows_later (suc n) s k h l m =
-        ap (λ (o : List Float). get_or o (s * 24 + k) nan) (adds n (omega arith) (iterate n add out))
-        ∙ row_frame (n * 24) names distinct few (ws n) (iterate n add out) (s * 24 + k) (every n (omega arith)) (inr (omega arith))
-        ∙ rows_later n s k (omega arith) l m
-
-    module _ (zeros : (i : ℕ) → i < N * 24 → get_or out i nan ≡ zero64) where
-      pub rows_hold : (n s k : ℕ) → n ≤ N → s < n → k < length names → get_or (iterate n add out) (s * 24 + k) nan ≡ added_up zero64 (get_or names k 0) (ws s)
-      unfolding iterate added_up
-      rows_hold zero s k h l m = absurd (omega arith)
-      rows_hold (suc n) s k h l m =
-          ap (λ (o : List Float). get_or o (s * 24 + k) nan) (adds n h (iterate n add out)) ∙ go (eqb s n) refl (λ q. rows_hold n s k (omega arith) q m)
-        where
-          go : (b : Bool) → eqb s n ≡ b → (s < n → get_or (iterate n add out) (s * 24 + k) nan ≡ added_up zero64 (get_or names k 0) (ws s)) → get_or (weights_added (n * 24) names (ws n) (iterate n add out)) (s * 24 + k) nan ≡ added_up zero64 (get_or names k 0) (ws s)
-          go true e f =
-              rw (eqb-true s n e)
-              (row_steps (n * 24) names distinct few [] (ws n) (iterate n add out) (every n h) (rw (rows_length n (omega arith)) (omega arith))
-              (λ j i. rows_later n n j (omega arith) h (omega arith) ∙ zeros (n * 24 + j) (omega arith)) k m)
-          go false e f =
-              let d = eqb-false s n e in
-              row_frame (n * 24) names distinct few (ws n) (iterate n add out) (s * 24 + k) (every n h) (inl (omega arith)) ∙ f (omega arith)
+pub weights_append : (names : List ℕ) (ws vs : List Weight) (out : List Float) → weights_added names (ws ++ vs) out ≡ weights_added names vs (weights_added names ws out)
+weights_append names [] vs out = refl
+weights_append names (w ∷ ws) vs out = weights_append names ws vs (weight_added names w out)

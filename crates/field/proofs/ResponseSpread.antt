@@ -10,16 +10,15 @@ use lib.Dec.{T}
 use lib.Ieee.{Float}
 use lib.Ieee.Fits.{and_i, and_l, and_r}
 use lib.Ieee.Scale.{finite}
-use lib.ListN.{length, get_or, take, drop}
+use lib.ListN.{length, get_or}
 use lib.Seq.{slice, length-slice}
 use Rattle.doubles.specs.Arithmetic.{one64}
 use Rattle.lists.specs.Lists.{elem, index_of, flatten}
+use Rattle.lists.proofs.Chunks.{slice_map}
 use Rattle.std.specs.List.{list_all}
-use Rattle.lists.proofs.Takes.{map_take}
 use Rattle.layout.specs.declared.Anchor.{Anchor}
 use Rattle.layout.specs.Steps.Starts.{no_anchor}
 use Rattle.layout.proofs.Coordinates.{all_append}
-use Rattle.layout.proofs.TopologyLists.{map_drop}
 use Rattle.field.specs.declared.Pick.{Pick}
 use Rattle.field.specs.declared.Pick.TheVariants.{One, Two}
 use Rattle.field.specs.Responses.{Weight, weighted, weights_of, pick_of}
@@ -29,9 +28,6 @@ use Rattle.field.proofs.response.Picks.{get_or_slice, pick_end_lem, part_length,
 use Rattle.field.proofs.response.Runs.{response_none, response_more, group_within, group_first}
 
 -- ---- lists
-pub map_slice : {A B : Type 0} (f : A → B) (a b : ℕ) (xs : List A) → slice a b (map f xs) ≡ map f (slice a b xs)
-map_slice f a b xs = ap (drop a) (sym (map_take f b xs)) ∙ sym (map_drop f a (take b xs))
-
 module _ {A : Type 0} (p : A → Bool) (d : A) where
   pub all_at : (xs : List A) → ((i : ℕ) → i < length xs → T (p (get_or xs i d))) → T (list_all p xs)
   all_at [] h = tt
@@ -72,10 +68,10 @@ module _ (names : List ℕ) where
   abbrev pub active_anchor : Anchor → Bool
   active_anchor a = elem a.name names
 
-  weighted_added : (base : ℕ) (w : Float) (xs : List Anchor) (out : List Float) → added_at base w (map placed xs) out ≡ weights_added base names (weighted w xs) out
+  weighted_added : (w : Float) (xs : List Anchor) (out : List Float) → added_at w (map placed xs) out ≡ weights_added names (weighted w xs) out
   unfolding added_at
-  weighted_added base w [] out = refl
-  weighted_added base w (a ∷ xs) out = weighted_added base w xs (weight_added base names (record { name = a.name; weight = w }) out)
+  weighted_added w [] out = refl
+  weighted_added w (a ∷ xs) out = weighted_added w xs (weight_added names (record { name = a.name; weight = w }) out)
 
   weighted_named : (w : Float) (xs : List Anchor) → T (list_all active_anchor xs) → T (list_all (named names) (weighted w xs))
   weighted_named w [] h = tt
@@ -94,18 +90,18 @@ module _ (names : List ℕ) where
     abbrev pub anchors_at : ℕ → List Anchor
     anchors_at i = slice (get_or parts i 0) (get_or parts (i + 1) 0) anchors
 
-    part_added : (base : ℕ) (w : Float) (i : ℕ) (out : List Float) → added_at base w (part_at (map placed anchors) parts i) out ≡ weights_added base names (weighted w (anchors_at i)) out
-    part_added base w i out = ap (λ (ks : List ℕ). added_at base w ks out) (map_slice placed (get_or parts i 0) (get_or parts (i + 1) 0) anchors) ∙ weighted_added base w (anchors_at i) out
+    part_added : (w : Float) (i : ℕ) (out : List Float) → added_at w (part_at (map placed anchors) parts i) out ≡ weights_added names (weighted w (anchors_at i)) out
+    part_added w i out = ap (λ (ks : List ℕ). added_at w ks out) (slice_map placed (get_or parts i 0) (get_or parts (i + 1) 0) anchors) ∙ weighted_added w (anchors_at i) out
 
     -- a pick among coordinates from a on, whose anchors are ps
     module _ (a n : ℕ) (ps : List (List Anchor)) (are : (i : ℕ) → i < n → get_or ps i [] ≡ anchors_at (a + i)) where
-      pub pick_added_lem : (base : ℕ) (p : Pick) (out : List Float) → pick_end p ≤ n → pick_added base (map placed anchors) parts (shifted a p) out ≡ weights_added base names (weights_of p ps) out
+      pub pick_added_lem : (p : Pick) (out : List Float) → pick_end p ≤ n → pick_added (map placed anchors) parts (shifted a p) out ≡ weights_added names (weights_of p ps) out
       unfolding pick_added
-      pick_added_lem base (One i) out h = part_added base one64 (a + i) out ∙ rw (are i (omega arith))
-      pick_added_lem base (Two i v w) out h =
-          part_added base w (a + i + 1) (added_at base v (part_at (map placed anchors) parts (a + i)) out)
-          ∙ ap (weights_added base names (weighted w (anchors_at (a + i + 1)))) (part_added base v (a + i) out)
-          ∙ sym (weights_append base names (weighted v (anchors_at (a + i))) (weighted w (anchors_at (a + i + 1))) out)
+      pick_added_lem (One i) out h = part_added one64 (a + i) out ∙ rw (are i (omega arith))
+      pick_added_lem (Two i v w) out h =
+          part_added w (a + i + 1) (added_at v (part_at (map placed anchors) parts (a + i)) out)
+          ∙ ap (weights_added names (weighted w (anchors_at (a + i + 1)))) (part_added v (a + i) out)
+          ∙ sym (weights_append names (weighted v (anchors_at (a + i))) (weighted w (anchors_at (a + i + 1))) out)
           ∙ rw (are i (omega arith), are (i + 1) (omega arith), add_assoc a i 1)
 
       pub pick_named : (p : Pick) → pick_end p ≤ n → ((i : ℕ) → i < n → T (list_all active_anchor (anchors_at (a + i)))) → T (list_all (named names) (weights_of p ps))
@@ -142,18 +138,18 @@ module _ (names : List ℕ) where
             let e = pick_end_lem (group_of g) u (part_some v a b u some long) t (rw (part_first v a b u some long) (group_first (map placed anchors) parts v groups count u t k g h)) in
             le_trans e (le_of_eq (part_length v a b u some long))
 
-        group_added : (base g : ℕ) (out : List Float) → g < count → pick_added base (map placed anchors) parts (group_pick v groups u g) out ≡ weights_added base names (group_weights g) out
+        group_added : (g : ℕ) (out : List Float) → g < count → pick_added (map placed anchors) parts (group_pick v groups u g) out ≡ weights_added names (group_weights g) out
         unfolding group_pick
-        group_added base g out h = pick_added_lem (get_or groups g 0) (get_or groups (g + 1) 0 - get_or groups g 0) (P g) (are g h) base (pick_of (group_of g) u) out (group_end g h)
+        group_added g out h = pick_added_lem (get_or groups g 0) (get_or groups (g + 1) 0 - get_or groups g 0) (P g) (are g h) (pick_of (group_of g) u) out (group_end g h)
 
-        pub groups_added : (base n : ℕ) (out : List Float) → n ≤ count → response_added base (map placed anchors) parts v groups n u out ≡ weights_added base names (gathered group_weights n) out
-        groups_added base zero out h = response_none (map placed anchors) parts v groups base u out
-        groups_added base (suc n) out h =
-            ap (λ (m : ℕ). response_added base (map placed anchors) parts v groups m u out) (sym (add-one n))
-            ∙ response_more (map placed anchors) parts v groups base u out n
-            ∙ group_added base n (response_added base (map placed anchors) parts v groups n u out) h
-            ∙ ap (weights_added base names (group_weights n)) (groups_added base n out (omega arith))
-            ∙ sym (weights_append base names (gathered group_weights n) (group_weights n) out)
+        pub groups_added : (n : ℕ) (out : List Float) → n ≤ count → response_added (map placed anchors) parts v groups n u out ≡ weights_added names (gathered group_weights n) out
+        groups_added zero out h = response_none (map placed anchors) parts v groups u out
+        groups_added (suc n) out h =
+            ap (λ (m : ℕ). response_added (map placed anchors) parts v groups m u out) (sym (add-one n))
+            ∙ response_more (map placed anchors) parts v groups u out n
+            ∙ group_added n (response_added (map placed anchors) parts v groups n u out) h
+            ∙ ap (weights_added names (group_weights n)) (groups_added n out (omega arith))
+            ∙ sym (weights_append names (gathered group_weights n) (group_weights n) out)
 
         pub groups_named : ((g : ℕ) → g < count → (i : ℕ) → i < get_or groups (g + 1) 0 - get_or groups g 0 → T (list_all active_anchor (anchors_at (get_or groups g 0 + i)))) → T (list_all (named names) (gathered group_weights count))
         groups_named h = gathered_all (named names) group_weights count (λ g l. pick_named (get_or groups g 0) (get_or groups (g + 1) 0 - get_or groups g 0) (P g) (are g l) (pick_of (group_of g) u) (group_end g l) (h g l))

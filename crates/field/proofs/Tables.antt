@@ -1,14 +1,15 @@
 -- Laws of the tables' numbers: they are equal where kernels and responses are, they are doubles, and they are clear (NaN, or the sign is clear). Assumes nothing.
 use Prim.Native.Nat.{ℕ, zero, suc, ◌+◌, ◌-◌, ◌*◌, ◌/◌, ◌%◌, ◌≤◌, ◌<◌}
-use mathlib.Core.Path.{◌≡◌, refl, ap, ◌∙◌}
+use mathlib.Core.Path.{◌≡◌, refl, sym, ap, ◌∙◌}
 use mathlib.Core.Bool.{Bool, true, false, cond}
 use mathlib.Core.List.{List}
 use native.Mathlib.Nat.{div-eq_of_lt-le, mod-eq-sub-div-mul}
 use native.Mathlib.Omega.{arith}
 use borrow.Author.Tests.{lt-ltb, le-ltb}
+use borrow.Rule.Slice.PartMut.{mid_of, put_mid}
 use lib.Dec.{T}
-use lib.Ieee.{Float, binary64, le, lt, fits}
-use lib.ListN.{length}
+use lib.Ieee.{Float, nan, binary64, le, lt, fits}
+use lib.ListN.{length, get_or}
 use Rattle.doubles.specs.Arithmetic.{◌⊕◌, ◌⊗◌, zero64}
 use Rattle.approximations.specs.Exp2.{exp2_of}
 use Rattle.approximations.specs.Log2.{log2_of}
@@ -21,42 +22,47 @@ use Rattle.field.specs.Knots.{Axis, X, Y, is_z, sample_count, sample, centre_kno
 use Rattle.field.specs.Responses.{response_on}
 use Rattle.field.specs.Patched.{patched, within, either}
 use Rattle.field.specs.Tables.{add_sample, sampled_over, sampled_on, knot_number, number_xy, row}
-use Rattle.field.proofs.Patching.{patched_as, patched_where, patched_both, within_says, within_join}
+use Rattle.field.proofs.Patching.{part_patched, patched_where, patched_both, within_join}
 
--- ---- rows of n numbers from base on
+-- ---- rows of n numbers
 
 -- index i of row r
+pub row_place : (n r i : ℕ) → r * n ≤ i → i < (r + 1) * n → (i / n ≡ r) × (i % n ≡ i - r * n)
+row_place n r i h k =
+    let q : i / n ≡ r = div-eq_of_lt-le n (omega arith) (omega arith) in
+    (q, mod-eq-sub-div-mul i n ∙ rw q (omega arith))
+
+-- the same of rows from base on
 pub row_index : (base n r i : ℕ) → base + r * n ≤ i → i < base + r * n + n → ((i - base) / n ≡ r) × ((i - base) % n ≡ i - (base + r * n))
 row_index base n r i h k =
-    let q : (i - base) / n ≡ r = div-eq_of_lt-le n (omega arith) (omega arith) in
-    (q, mod-eq-sub-div-mul (i - base) n ∙ rw q (omega arith))
+    let p = row_place n r (i - base) (omega arith) (omega arith) in
+    (p.0, p.1 ∙ omega arith)
 
--- g 0, g 1, .. written into row r is h by row and place in the row
-pub row_patched : (base n r : ℕ) (g : ℕ → Float) (h : ℕ → ℕ → Float) (xs : List Float) → ((k : ℕ) → g k ≡ h r k) → patched (row base n r) (λ (i : ℕ). g (i - (base + r * n))) xs ≡ patched (row base n r) (λ (i : ℕ). h ((i - base) / n) ((i - base) % n)) xs
-row_patched base n r g h xs e =
-    patched_as (row base n r) (λ (i : ℕ). g (i - (base + r * n))) (λ (i : ℕ). h ((i - base) / n) ((i - base) % n)) xs
-    (λ (i : ℕ) (k : i < length xs) (w : row base n r i ≡ true).
-    let p = within_says (base + r * n) (base + r * n + n) i w in
-    let q = row_index base n r i p.0 p.1 in
-    rw (q.0, q.1) (e (i - (base + r * n))))
+-- numbers put into row r, which ends at e, are h by row and place in the row
+pub row_patched : (n r e : ℕ) (h : ℕ → ℕ → Float) (xs ys : List Float) → e ≡ (r + 1) * n → e ≤ length xs → length ys ≡ length (mid_of (r * n) (e - r * n) xs) → ((k : ℕ) → k < n → get_or ys k nan ≡ h r k) → put_mid (r * n) (e - r * n) xs ys ≡ patched (row n r) (λ (i : ℕ). h (i / n) (i % n)) xs
+row_patched n r e h xs ys is l m k =
+    let f : e - r * n ≡ n = omega arith in
+    part_patched (r * n) e (λ (i : ℕ). h (i / n) (i % n)) xs ys (omega arith) l m
+    (λ (i : ℕ) (j : i < e - r * n).
+    let p = row_place n r (r * n + i) (omega arith) (omega arith) in
+    let d : r * n + i - r * n ≡ i = omega arith in
+    k i (omega arith) ∙ sym (rw (p.0, p.1, d)))
+    ∙ ap (λ (b : ℕ). patched (within (r * n) b) (λ (i : ℕ). h (i / n) (i % n)) xs) is
 
 -- one more row
-pub rows_more : (base n a r i : ℕ) → a ≤ base + r * n → either (within a (base + r * n)) (row base n r) i ≡ within a (base + (r + 1) * n) i
-rows_more base n a r i h =
-    let e : base + (r + 1) * n ≡ base + r * n + n = omega arith in
-    rw e (within_join a (base + r * n) (base + r * n + n) i h (omega arith))
+pub rows_more : (n a r i : ℕ) → a ≤ r * n → either (within a (r * n)) (row n r) i ≡ within a ((r + 1) * n) i
+rows_more n a r i h = within_join a (r * n) ((r + 1) * n) i h (omega arith)
 
-pub rows_patched : (base n a r : ℕ) (F : ℕ → Float) (xs : List Float) → a ≤ base + r * n → patched (row base n r) F (patched (within a (base + r * n)) F xs) ≡ patched (within a (base + (r + 1) * n)) F xs
-rows_patched base n a r F xs h =
-    patched_both (row base n r) (within a (base + r * n)) F xs
-    ∙ patched_where (either (within a (base + r * n)) (row base n r)) (within a (base + (r + 1) * n)) F xs (λ (i : ℕ) (k : i < length xs). rows_more base n a r i h)
+pub rows_patched : (n a r : ℕ) (F : ℕ → Float) (xs : List Float) → a ≤ r * n → patched (row n r) F (patched (within a (r * n)) F xs) ≡ patched (within a ((r + 1) * n)) F xs
+rows_patched n a r F xs h =
+    patched_both (row n r) (within a (r * n)) F xs ∙ patched_where (either (within a (r * n)) (row n r)) (within a ((r + 1) * n)) F xs (λ (i : ℕ) (k : i < length xs). rows_more n a r i h)
 
 -- the rows of X, and the rows of Y
-pub number_X : (x y : List Float) (r k : ℕ) → r < 700 → number_xy x y r k ≡ knot_number X x r k
+pub number_X : (x y : List (List Float)) (r k : ℕ) → r < 700 → number_xy x y r k ≡ knot_number X x r k
 unfolding number_xy
 number_X x y r k h = rw (lt-ltb r 700 h)
 
-pub number_Y : (x y : List Float) (r k : ℕ) → number_xy x y (700 + r) k ≡ knot_number Y y r k
+pub number_Y : (x y : List (List Float)) (r k : ℕ) → number_xy x y (700 + r) k ≡ knot_number Y y r k
 unfolding number_xy
 number_Y x y r k =
     ap (λ (b : Bool). cond b (knot_number X x (700 + r) k) (knot_number Y y (700 + r - 700) k)) (le-ltb (700 + r) 700 (omega arith))

@@ -1,5 +1,5 @@
 -- The numbers of the tables, by axis, channel name, centre and radius. Definitions only.
-use Rattle.std.specs.Prelude.{ℕ, zero, suc, ◌+◌, ◌-◌, ◌*◌, ◌/◌, ◌%◌, Bool, cond, List, ltb, Float, get_or}
+use Rattle.std.specs.Prelude.{ℕ, zero, suc, ◌+◌, ◌-◌, ◌*◌, ◌/◌, ◌%◌, Bool, cond, List, [], ltb, Float, get_or}
 use Rattle.std.specs.Float.{nan}
 use Rattle.std.specs.Float.Ieee.{le}
 use Rattle.doubles.specs.Arithmetic.{◌⊕◌, ◌⊗◌, zero64}
@@ -29,23 +29,23 @@ sampled_on a t i j name =
     (exponent_of (radius_knot j))
     (sample_count a)
 
--- ---- what the code works out from the responses at the samples, 24 numbers to a sample
+-- ---- what the code works out from the columns of the channels: of each its responses at the samples
 
 -- the number of channel k at a knot: centre knot / 20 and radius knot % 20
-unfoldable pub knot_number : Axis → List Float → ℕ → ℕ → Float
+unfoldable pub knot_number : Axis → List (List Float) → ℕ → ℕ → Float
 unfolding sampled_over kernel_of exponent_of
-knot_number a responses knot k =
+knot_number a columns knot k =
     sampled_over
     (λ (s : ℕ). kernel_of (sample a s) (centre_knot a (knot / 20)) (radius_knot (knot % 20)) (is_z a))
-    (λ (s : ℕ). get_or responses (s * 24 + k) nan)
+    (λ (s : ℕ). get_or (get_or columns k []) s nan)
     (exponent_of (radius_knot (knot % 20)))
     (sample_count a)
 
 -- the tables of X and Y, row after row
-unfoldable pub number_xy : List Float → List Float → ℕ → ℕ → Float
+unfoldable pub number_xy : List (List Float) → List (List Float) → ℕ → ℕ → Float
 unfolding knot_number
 number_xy x y r k = cond (ltb r 700) (knot_number X x r k) (knot_number Y y (r - 700) k)
 
--- the places of row r, where rows of n numbers begin at base
-abbrev pub row : ℕ → ℕ → ℕ → ℕ → Bool
-row base n r = within (base + r * n) (base + r * n + n)
+-- the places of row r, where rows have n numbers
+abbrev pub row : ℕ → ℕ → ℕ → Bool
+row n r = within (r * n) ((r + 1) * n)

@@ -1,7 +1,7 @@
 -- Filling places of a store: twice is once, and a place stays filled where another is filled. Assumes nothing.
 use Prim.Native.Nat.{ℕ, suc, ◌-◌, ◌*◌, ◌/◌, ◌≤◌, ◌<◌}
 use mathlib.Core.Path.{◌≡◌, refl, sym, ap, ◌∙◌}
-use mathlib.Core.Bool.{Bool, true, false, ◌&&◌, ◌||◌, not, cond}
+use mathlib.Core.Bool.{Bool, true, false, ◌&&◌, ◌||◌, not, cond, or_self}
 use mathlib.Core.List.{List}
 use native.Mathlib.Nat.{div-lt_iff_lt-mul}
 use native.Mathlib.Omega.{arith}
@@ -9,12 +9,12 @@ use borrow.Author.Tests.{leb-true, ltb-true}
 use lib.Dec.{leb, ltb}
 use lib.Ieee.{Float, nan}
 use lib.ListN.{length, get_or}
+use Rattle.std.proofs.lemmas.Bool.{and_parts}
 use Rattle.layout.specs.Room.{Room, names_in, active_in}
 use Rattle.layout.proofs.SoundRoom.{SoundRoom}
 use Rattle.field.specs.Patched.{either}
 use Rattle.field.specs.Place.{place_number, row_of_z, row_written, place_start, filled_from, filled}
 use Rattle.field.proofs.Patching.{patched_length, get_or_patched, is_patched, patched_both, patched_where}
-use Rattle.field.proofs.PlaceRows.{both_left, both_right}
 
 module _ (r : Room) (p : ℕ) where
   abbrev writes : ℕ → Bool
@@ -26,9 +26,9 @@ module _ (r : Room) (p : ℕ) where
   -- what is written lies in the place
   writes_in : SoundRoom r → (i : ℕ) → writes i ≡ true → (place_start p ≤ i) × (i < place_start (suc p))
   writes_in sound i w =
-      let a = leb-true (place_start p) i (both_left (leb (place_start p) i) (row_written r.layers ((i - place_start p) / active_in r)) w) in
-      let z = both_right (leb (place_start p) i) (row_written r.layers ((i - place_start p) / active_in r)) w in
-      let q = ltb-true ((i - place_start p) / active_in r) 1486 (both_left (ltb ((i - place_start p) / active_in r) 1486) (ltb 1 (length r.layers) || not (row_of_z ((i - place_start p) / active_in r))) z) in
+      let a = leb-true (place_start p) i ((and_parts (leb (place_start p) i) (row_written r.layers ((i - place_start p) / active_in r)) w).0) in
+      let z = (and_parts (leb (place_start p) i) (row_written r.layers ((i - place_start p) / active_in r)) w).1 in
+      let q = ltb-true ((i - place_start p) / active_in r) 1486 ((and_parts (ltb ((i - place_start p) / active_in r) 1486) (ltb 1 (length r.layers) || not (row_of_z ((i - place_start p) / active_in r))) z).0) in
       let b : i - place_start p < 1486 * active_in r = (div-lt_iff_lt-mul sound.some_active).0 q in
       (a, omega (arith, sound.few_active))
 
@@ -36,11 +36,7 @@ pub fill_twice : (r : Room) (p : ℕ) (store : List Float) → filled r p (fille
 unfolding filled filled_from
 fill_twice r p store =
     patched_both (writes r p) (writes r p) (number r p) store
-    ∙ patched_where (either (writes r p) (writes r p)) (writes r p) (number r p) store (λ i h. once (writes r p i))
-  where
-    once : (b : Bool) → (b || b) ≡ b
-    once true = refl
-    once false = refl
+    ∙ patched_where (either (writes r p) (writes r p)) (writes r p) (number r p) store (λ i h. or_self (writes r p i))
 
 module _ (r s : Room) (sound : SoundRoom r) (other : SoundRoom s) (p q : ℕ) (store : List Float) (apart : p ≡ q → ⊥) (held : filled r p store ≡ store) where
   outside : (i : ℕ) → writes r p i ≡ true → (b : Bool) → writes s q i ≡ b → writes s q i ≡ false

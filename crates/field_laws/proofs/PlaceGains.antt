@@ -10,6 +10,7 @@ use lib.Dec.{T, leb, ltb}
 use lib.Ieee.{Float, nan, binary64, fits, lt, eq}
 use lib.ListN.{length, get_or, take, drop, get_or-append}
 use lib.Seq.{length-take-le, get_or-take}
+use Rattle.std.proofs.lemmas.Bool.{and_parts}
 use Rattle.doubles.specs.Arithmetic.{◌⊗◌, one64, zero64}
 use Rattle.doubles.specs.Norm.{Bounded}
 use Rattle.layout.specs.Room.{Room, names_in, active_in}
@@ -30,7 +31,6 @@ use Rattle.field.proofs.PlaceNumbers.{place_fits, filled_length, filled_at}
 use Rattle.field.proofs.PlaceClear.{room_place_clear}
 use Rattle.gains.proofs.GainBounds.{clamped_fits, projected_bounded}
 use Rattle.field.proofs.Tables.{row_index}
-use Rattle.field.proofs.PlaceRows.{both_left}
 
 -- ---- the rows that are read: those of Z only where there is Z
 abbrev pub row_read : Bool → ℕ → Bool
@@ -179,7 +179,7 @@ module _ (room : Room) (sound : SoundRoom room) (deep : Bool) (d : deep ≡ ltb 
   read_written i h = ap (λ (b : Bool). ltb i 1486 && (b || not (row_of_z i))) (sym d) ∙ h
 
   read_low : (i : ℕ) → row_read deep i ≡ true → i < 1486
-  read_low i h = ltb-true i 1486 (both_left (ltb i 1486) (deep || not (row_of_z i)) h)
+  read_low i h = ltb-true i 1486 ((and_parts (ltb i 1486) (deep || not (row_of_z i)) h).0)
 
   -- a place filled in one store and another filled in another give the same gains
   module _ (p q : ℕ) (s t : List Float) (lowP : p < 8) (lowQ : q < 8) (bigS : 285312 ≤ length s) (bigT : 285312 ≤ length t) (mean : ℕ) (r : Float) (c : Centre) (points gains : List Float) (centre : CentreFits c) (radius : T (fits binary64 r)) where

@@ -9,28 +9,23 @@ use lib.Ieee.Fits.{cond-fits}
 use Rattle.doubles.specs.Arithmetic.{◌⊘◌, zero64}
 use Rattle.approximations.specs.Exp2.{exp2_of}
 use Rattle.approximations.specs.Log2.{log2_of}
-use Rattle.doubles.proofs.Signs.{clear}
+use Rattle.doubles.proofs.Signs.{clear, cond_clear}
 use Rattle.doubles.proofs.Laws.{mul-fits, div-fits, mul_clear}
-use Rattle.approximations.proofs.Laws.{exp2_clear}
+use Rattle.approximations.proofs.Laws.{exp2_clear, exp2_fits}
 use Rattle.layout.specs.declared.Centre.{Centre}
 use Rattle.field.specs.Knots.{X, Y, Z}
 use Rattle.gains.specs.Lookup.{centre_knots, radius_knots, bracket_of}
 use Rattle.gains.specs.Diffuse.{Rows, response_x, response_y, response_z, weight_of, compensated_of, diffuse_of}
-use Rattle.extent.proofs.Shaping.{exp2_fits}
 use Rattle.gains.proofs.Lookups.{placed_X, placed_Y, placed_Z, placed_radius, lookup_clear}
 use Rattle.gains.proofs.diffuse.Cases.{field}
 use Rattle.gains.proofs.diffuse.Field.{inside, near, diffuse_by}
-
-clear_by : (b : Bool) (x y : Float) → T (clear x) → T (clear y) → T (clear (cond b x y))
-clear_by true x y p q = p
-clear_by false x y p q = q
 
 -- ---- a channel near a wall, whatever the numbers
 pub compensated_clear : (i p l e : Float) → T (clear (compensated_of i p l e))
 unfolding compensated_of
 compensated_clear i p l e =
     let v = log2_of (field i p l e) ⊘ e in
-    clear_by (lt zero64 (field i p l e)) (exp2_of v) zero64 (exp2_clear v (div-fits (log2_of (field i p l e)) e)) tt
+    cond_clear (lt zero64 (field i p l e)) (exp2_of v) zero64 (exp2_clear v (div-fits (log2_of (field i p l e)) e)) tt
 
 pub compensated_fits : (i p l e : Float) → T (fits binary64 (compensated_of i p l e))
 unfolding compensated_of fits
@@ -55,7 +50,7 @@ module _ (f : Rows) (deep : Bool) (c : Centre) (r : Float) where
   unfolding at_weight
   diffuse_clear_by p q s =
       subst (λ (x : Float). T (clear x)) (sym (diffuse_by f deep c r at_weight refl))
-      (clear_by at_weight (inside f deep c r) (near f deep c r) (mul_clear _ _ (mul_clear _ _ p q) s) (compensated_clear _ _ _ _))
+      (cond_clear at_weight (inside f deep c r) (near f deep c r) (mul_clear _ _ (mul_clear _ _ p q) s) (compensated_clear _ _ _ _))
 
 -- ---- clear tables
 

@@ -23,10 +23,10 @@ use Rattle.gains.specs.Lookup.{channels}
 use Rattle.gains.specs.Diffuse.{Rows, diffuse_of}
 use Rattle.gains.specs.Gains.{normalized_of, blend_of, blended, clamped_centre, rows_in, gains_of, projectable, projected}
 use Rattle.lists.specs.Lists.{zip_with}
-use Rattle.extent.proofs.Tests.{yes}
 use Rattle.gains.proofs.DiffuseSigns.{table_rows, CentreFits, Good, diffuse_fits, diffuse_clear}
 use Rattle.gains.proofs.lookup.Listing.{length_listed, get_or_listed}
 use Rattle.std.proofs.lemmas.List.{get_or-map}
+use Rattle.std.proofs.lemmas.Float.{T_from_true}
 use Rattle.gains.proofs.gains.Front.{zipped_long, get_or_zipped}
 use Rattle.gains.proofs.gains.Asks.{asked}
 use Rattle.gains.proofs.gains.Normal.{normalized_length}
@@ -53,7 +53,7 @@ normalized_bounded v k h p = go (finite (sum_squares v) && lt zero64 (sum_square
   where
     go : (b : Bool) → finite (sum_squares v) && lt zero64 (sum_squares v) ≡ b → Bounded (get_or (cond b (map (λ (x : Float). x ⊘ sqrt_of binary64 (sum_squares v)) v) (map (λ (x : Float). zero64) v)) k nan)
     go true e =
-        let t = yes e in
+        let t = T_from_true _ e in
         subst Bounded (sym (get_or-map (λ (x : Float). x ⊘ sqrt_of binary64 (sum_squares v)) v k nan nan h))
         (norm_bound v (get_or v k nan) (and_l (finite (sum_squares v)) (lt zero64 (sum_squares v)) t) (and_r (finite (sum_squares v)) (lt zero64 (sum_squares v)) t) (get_or_mem v k nan h) p.0 p.1)
     go false e = subst Bounded (sym (get_or-map (λ (x : Float). zero64) v k nan nan h)) zero_bounded

@@ -1,3 +1,4 @@
 pub mod Lookups
 pub mod DiffuseSigns
 pub mod GainBounds
+pub mod lookup

@@ -6,21 +6,21 @@ use mathlib.Core.Bool.{Bool, true, false}
 use mathlib.Core.List.{List}
 use native.Mathlib.Nat.{le_refl}
 use native.Mathlib.Omega.{arith}
-use borrow.Author.Tests.{le-ltb}
 use lib.Dec.{T}
-use lib.Ieee.{Float, nan, inf, fin, binary64, up, down, add, mul, lt, le, eq, fits}
+use lib.Ieee.{Float, nan, inf, fin, binary64, add, mul, lt, le, eq, fits}
 use lib.Ieee.Scale.{finite}
 use lib.ListN.{length, get_or}
+use Rattle.std.proofs.lemmas.Float.{T_from_true, le_of_lt}
 use Rattle.doubles.specs.Arithmetic.{◌⊕◌, ◌⊖◌, ◌⊘◌, one64, zero64}
 use Rattle.doubles.proofs.Laws.{add-fits, lerp_clear}
-use Rattle.doubles.proofs.Magnitude.{plain, plain_finite}
+use Rattle.doubles.proofs.Magnitude.{plain_finite}
 use Rattle.doubles.proofs.Signs.{clear}
+use Rattle.doubles.proofs.Bound.{zero_le_plain}
 use Rattle.gains.specs.declared.Bracket.{Bracket}
 use Rattle.field.specs.Knots.{X, Y, Z}
 use Rattle.gains.specs.Lookup.{centre_knots, radius_knots, at_knot, bracket_of, mixed, at_centre, lookup_of}
 use Rattle.field.specs.Responses.{count_below}
-use Rattle.extent.proofs.Tests.{yes}
-use Rattle.gains.proofs.lookup.Comparing.{le_of_lt, le_of_not_lt, nan_of, between_plain}
+use Rattle.gains.proofs.lookup.Comparing.{le_of_not_lt, nan_of, between_plain}
 use Rattle.gains.proofs.lookup.Listing.{below_before, below_at}
 use Rattle.gains.proofs.lookup.Rising.{Rising, rising_wide, rising_high, rising_radius}
 use Rattle.gains.proofs.lookup.Cases.{at_first, at_last, between_by, some_below, at_no_number}
@@ -43,16 +43,6 @@ at_knot_lem : (last : ℕ) (v : Float) (i : ℕ) → i ≤ last → Placed last 
 unfolding lt le eq fits
 at_knot_lem last v i h = record { order = le_refl i; within = h; double = tt; share = inr (tt, tt, tt) }
 
--- a finite number with a clear sign is from 0 up
-plain_from : (t : Float) → T (plain t) → T (le zero64 t)
-plain_from t p = yes (le_of_not_lt t zero64 (plain_finite t p) tt (not_under t p))
-  where
-    not_under : (t : Float) → T (plain t) → lt t zero64 ≡ false
-    not_under nan p = absurd p
-    not_under (inf s) p = absurd p
-    not_under (fin true m e) p = absurd p
-    not_under (fin false m e) p = unfold lt in le-ltb (m * up e * 1) (0 * 1 * down e) (omega arith)
-
 module _ (xs : List Float) (r : Rising xs) (v : Float) (d : T (fits binary64 v)) where
   abbrev last : ℕ
   last = length xs - 1
@@ -71,10 +61,10 @@ module _ (xs : List Float) (r : Rising xs) (v : Float) (d : T (fits binary64 v))
       let p = between_plain zero64 (get_or xs last nan) v tt (r.plains last (omega arith)) h e in
       let pa = r.plains (k - 1) (omega arith) in
       let pb = r.plains k (omega arith) in
-      let q = quotient_up_to binary64 a v b (r.doubles (k - 1) (omega arith)) d (r.doubles k (omega arith)) pa p pb (le_of_lt a v under) (yes (le_of_not_lt b v (plain_finite b pb) (plain_finite v p) over)) apart in
+      let q = quotient_up_to binary64 a v b (r.doubles (k - 1) (omega arith)) d (r.doubles k (omega arith)) pa p pb (le_of_lt a v (T_from_true _ under)) (T_from_true _ (le_of_not_lt b v (plain_finite b pb) (plain_finite v p) over)) apart in
       let t = (v ⊖ a) ⊘ (b ⊖ a) in
       subst (Placed last v) (sym (between_by xs r v h e))
-      (record { order = omega arith; within = omega arith; double = q.0; share = inr (plain_finite t q.1, plain_from t q.1, q.2) })
+      (record { order = omega arith; within = omega arith; double = q.0; share = inr (plain_finite t q.1, zero_le_plain t q.1, q.2) })
 
   pub placed : Placed last v (bracket_of xs v)
   placed = go (le v zero64) (lt zero64 v) (le (get_or xs last nan) v) refl refl refl

@@ -5,4 +5,3 @@ pub mod Axes
 pub mod Field
 pub mod Steps
 pub mod Gathering
-pub mod Each

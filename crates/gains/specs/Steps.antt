@@ -1,2 +1,3 @@
 pub mod Gathered
 pub mod Rising
+pub mod Rows

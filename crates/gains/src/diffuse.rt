@@ -1,67 +1,40 @@
 // The diffuse field of a place of the store.
-ghost use Rattle.std.specs.Prelude.{◌≡◌, cond, ℕ, ◌+◌, ◌*◌, ◌≤◌, ◌<◌, Float, length, get_or, take, drop};
+ghost use Rattle.std.specs.Prelude.{◌≡◌, cond, ℕ, ◌≤◌, ◌<◌, Float, length, get_or};
 ghost use Rattle.std.specs.Float.{nan};
 ghost use Rattle.std.specs.Float.Ieee.{lt};
 ghost use Rattle.doubles.specs.Arithmetic.{◌⊗◌, ◌⊘◌, zero64};
 ghost use Rattle.approximations.specs.Exp2.{exp2_of};
 ghost use Rattle.approximations.specs.Log2.{log2_of};
 ghost use Rattle.extent.specs.Kernel.{shaped_of, exponent_of};
-ghost use Rattle.gains.specs.Diffuse.{place_rows, response_x, response_y, response_z, lambda_of, compensated_of, wall_at, ended, end_product, diffuse_of};
+ghost use Rattle.gains.specs.Lookup.{channels};
+ghost use Rattle.gains.specs.Diffuse.{lambda_of, compensated_of, end_product, diffuse_of};
 ghost use Rattle.gains.specs.Steps.Gathered.{above_before, Gathered, scattered};
-ghost use Rattle.gains.specs.Lookup.{channels, bracket_of, lookup_of};
+ghost use Rattle.gains.specs.Steps.Rows.{rows_of};
 
-use crate::knots::{Knots, high_knots, radius_knots, wide_knots};
-use crate::lookup::lookup;
+use crate::place::{Place, Responses, X_ENDS, Y_ENDS, Z_ENDS};
 use crate::walls::{distance_of, nearest_wall};
-use crate::{Bracket, Wall};
-use approximations::{approx_exp2, approx_exp2_each, approx_log2};
-use extent::{ZERO_FIELD_THRESHOLD, compact_quartic_kernel, shaping_exponent};
+use crate::{SMALL_RADIUS, Wall};
+use approximations::{approx_exp2_each, approx_log2, change_each};
+use extent::{ZERO_FIELD_THRESHOLD, compact_quartic_kernel, shaped, shaping_exponent};
 use layout::Centre;
-
-const NEAR: f64 = 0.05;
 
 const RESPONSE_SCALE: f64 = 0.31640625;
 
-// A place of the store: its 1486 rows of n numbers begin at `base`. Only a deep one has Z.
-#[derive(Clone, Copy)]
-pub(crate) struct Place<'a> {
-    pub(crate) store: &'a [f64],
-    pub(crate) base: usize,
-    pub(crate) n: usize,
-    pub(crate) deep: bool,
-    ghost few: { n ≤ 24 },
-    ghost in_store: { base + 1486 * n ≤ length store.now },
-}
-
-// What the responses at a wall are made of: each channel's number there, where the wall stands and
-// where the centre on its axis, whether that is the height, and the responses of the other two axes.
+// What the responses at a wall are made of: each channel's number there, the kernel there, and the
+// responses of the other two axes.
 #[derive(Clone, Copy)]
 struct End<'a, 'b> {
     numbers: &'a [f64],
-    u: f64,
-    centre: f64,
-    height: bool,
+    kernel: f64,
     a: &'b [f64; 24],
     b: &'b [f64; 24],
-}
-
-// Each entry becomes f of its number and of itself.
-pub(crate) fn change_each<F: Fn(usize, f64) -> f64>(v: &mut [f64], f: F)
-    requires { (k : ℕ) (x : Float) → k < length v.old → F.pre f k x }
-    ensures { (g : ℕ → Float → Float)
-        → ((k : ℕ) (x y : Float) → k < length v.old → F.post f k x y → y ≡ g k x)
-        → v.new ≡ channels (length v.old) (λ (k : ℕ). g k (get_or v.old k nan)) }
-{
-    for (k, x) in v.iter_mut().enumerate() {
-        *x = f(k, *x);
-    }
 }
 
 // How much the wall's response counts.
 fn lambda(distance: f64, radius: f64) -> f64
     ensures { result ≡ lambda_of distance radius }
 {
-    let near = (distance / 4.0 <= radius) | (distance / 4.0 <= NEAR);
+    let near = (distance / 4.0 <= radius) | (distance / 4.0 <= SMALL_RADIUS);
     if near & (radius >= ZERO_FIELD_THRESHOLD) {
         25.0 * distance * distance * distance / (4.0 * radius)
     } else {
@@ -69,23 +42,10 @@ fn lambda(distance: f64, radius: f64) -> f64
     }
 }
 
-// As `shaped`. The power is always finite, so that is not tested.
-fn shaped_end(value: f64, exponent: f64) -> f64
-    ensures { result ≡ shaped_of value exponent }
-{
-    if value > 0.0 {
-        let result = approx_exp2(exponent * approx_log2(value));
-        if result > 0.0 {
-            return result;
-        }
-    }
-    0.0
-}
-
-// The logarithms of the fields above 0 over the exponent, one after another, and how many there are:
-// into a lent array, since there is no heap to collect into.
-fn gather(out: &mut [f64; 24], fields: &[f64], exponent: f64) -> usize
-    requires { length fields.now ≤ 24 }
+// The logarithms of the fields above 0 over the exponent, one after another, and how many there are.
+// Into lent numbers: std's collect would allocate, and the crate has no heap.
+fn gather(out: &mut [f64], fields: &[f64], exponent: f64) -> usize
+    requires { length fields.now ≤ length out.old }
     ensures few { result ≤ length fields.now }
     ensures value { result ≡ above_before fields.now (length fields.now) }
     ensures gathered { Gathered (λ (x : Float). log2_of x ⊘ exponent) fields.now
@@ -102,8 +62,9 @@ fn gather(out: &mut [f64; 24], fields: &[f64], exponent: f64) -> usize
 }
 
 // Puts one value after another where the field is above 0, and 0 elsewhere.
-fn scatter(out: &mut [f64], gathered: &[f64; 24])
-    requires { length out.old ≤ 24 }
+// Their place is counted: no zip pairs them, and an iterator's next is an Option that has to be unwrapped.
+fn scatter(out: &mut [f64], gathered: &[f64])
+    requires { length out.old ≤ length gathered.now }
     ensures { out.new ≡ channels (length out.old) (scattered out.old gathered.now) }
 {
     let mut m = 0usize;
@@ -134,92 +95,55 @@ fn unshape(out: &mut [f64], exponent: f64)
 fn near_wall(out: &mut [f64], end: &End, radius: f64, weight: f64)
     requires { (length out.old ≤ 24) × (length out.old ≡ length end.now.numbers.now) }
     ensures { out.new ≡ channels (length out.old) (λ (k : ℕ). compensated_of (get_or out.old k nan)
-        (ended (get_or end.now.numbers.now k nan) end.now.u end.now.centre end.now.height radius
+        (shaped_of (end.now.kernel ⊗ get_or end.now.numbers.now k nan) (exponent_of radius)
         ⊗ get_or end.now.a.now k nan ⊗ get_or end.now.b.now k nan) weight (exponent_of radius)) }
 {
     let exponent = shaping_exponent(radius);
-    let kernel = compact_quartic_kernel(end.u, end.centre, radius, end.height);
-    let mut shaped = [0.0f64; 24];
-    change_each(&mut shaped[..out.len()], |k, _| {
-        shaped_end(kernel * end.numbers[k], exponent)
+    let mut ends = [0.0f64; 24];
+    change_each(&mut ends[..out.len()], |k, _| {
+        shaped(end.kernel * end.numbers[k], exponent)
     });
     change_each(out, |k, inside| {
-        RESPONSE_SCALE * (inside + weight * (shaped[k] * end.a[k] * end.b[k]))
+        RESPONSE_SCALE * (inside + weight * (ends[k] * end.a[k] * end.b[k]))
     });
     unshape(out, exponent);
 }
 
-fn end_of(far: bool) -> f64
-    ensures { result ≡ wall_at far }
+// What the responses at a wall are made of: an arm for each wall, for they differ in every value of `End`.
+// Place, centre and radius come one by one, as `diffuse` has them from its caller.
+fn end_at<'a, 'b>(
+    p: &Place<'a>,
+    wall: Wall,
+    c: Centre,
+    radius: f64,
+    s: &'b Responses,
+) -> End<'a, 'b>
+    ensures length { length result.numbers.now ≡ p.now.n }
+    ensures product { (k : ℕ) → k < p.now.n
+        → shaped_of (result.kernel ⊗ get_or result.numbers.now k nan) (exponent_of radius)
+        ⊗ get_or result.a.now k nan ⊗ get_or result.b.now k nan
+        ≡ end_product wall (rows_of p.now k) c radius
+        (get_or s.now.x k nan) (get_or s.now.y k nan) (get_or s.now.z k nan) }
 {
-    if far { 1.0 } else { 0.0 }
-}
-
-impl<'a> Place<'a> {
-    // Each channel's number in row i.
-    fn row(&self, i: usize) -> &'a [f64]
-        requires { i < 1486 }
-        ensures { result.now
-            ≡ take self.now.n (drop (self.now.base + i * self.now.n) self.now.store.now) }
-    {
-        let from = self.base + i * self.n;
-        &self.store[from..from + self.n]
-    }
-
-    // What the responses at a wall are made of.
-    fn end_at<'b>(
-        &self,
-        wall: Wall,
-        c: Centre,
-        x: &'b [f64; 24],
-        y: &'b [f64; 24],
-        z: &'b [f64; 24],
-    ) -> End<'a, 'b>
-        ensures length { length result.numbers.now ≡ self.now.n }
-        ensures product { (radius : Float) (k : ℕ) → k < self.now.n
-            → ended (get_or result.numbers.now k nan) result.u result.centre result.height radius
-            ⊗ get_or result.a.now k nan ⊗ get_or result.b.now k nan
-            ≡ end_product wall (place_rows self.now.store.now self.now.base self.now.n k) c radius
-            (get_or x.now k nan) (get_or y.now k nan) (get_or z.now k nan) }
-    {
-        match wall {
-            Wall::X(far, _) => End {
-                numbers: self.row(1480 + usize::from(far)),
-                u: end_of(far),
-                centre: c.x,
-                height: false,
-                a: y,
-                b: z,
-            },
-            Wall::Y(far, _) => End {
-                numbers: self.row(1482 + usize::from(far)),
-                u: end_of(far),
-                centre: c.y,
-                height: false,
-                a: x,
-                b: z,
-            },
-            Wall::Z(_) => End {
-                numbers: self.row(1485),
-                u: 1.0,
-                centre: c.z,
-                height: true,
-                a: x,
-                b: y,
-            },
-        }
-    }
-
-    // Each channel's response on an axis, whose table begins in row i and has these centre knots.
-    fn on_axis(&self, out: &mut [f64; 24], i: usize, knots: Knots, value: f64, r: Bracket)
-        requires in_place { i + length knots.at.now * 20 ≤ 1480 }
-        requires radius { (r.lower ≤ r.upper) × (r.upper ≤ 19) }
-        ensures { (k : ℕ) → k < self.now.n → get_or out.new k nan
-            ≡ lookup_of (λ (j : ℕ). place_rows self.now.store.now self.now.base self.now.n k (i + j))
-            (bracket_of knots.entry.at.now value) r }
-    {
-        let table = &self.store[self.base + i * self.n..];
-        lookup(&mut out[..self.n], table, knots.bracket(value), r);
+    match wall {
+        Wall::X(far, _) => End {
+            numbers: p.row(X_ENDS + usize::from(far)),
+            kernel: compact_quartic_kernel(f64::from(u8::from(far)), c.x, radius, false),
+            a: &s.y,
+            b: &s.z,
+        },
+        Wall::Y(far, _) => End {
+            numbers: p.row(Y_ENDS + usize::from(far)),
+            kernel: compact_quartic_kernel(f64::from(u8::from(far)), c.y, radius, false),
+            a: &s.x,
+            b: &s.z,
+        },
+        Wall::Z(_) => End {
+            numbers: p.row(Z_ENDS + 1),
+            kernel: compact_quartic_kernel(1.0, c.z, radius, true),
+            a: &s.x,
+            b: &s.y,
+        },
     }
 }
 
@@ -227,21 +151,18 @@ impl<'a> Place<'a> {
 pub(crate) fn diffuse(out: &mut [f64], p: &Place, c: Centre, radius: f64)
     requires { length out.old ≡ p.now.n }
     ensures { out.new ≡ channels p.now.n (λ (k : ℕ).
-        diffuse_of (place_rows p.now.store.now p.now.base p.now.n k) p.now.deep c radius) }
+        diffuse_of (rows_of p.now k) p.now.deep c radius) }
 {
-    let mut x = [0.0f64; 24];
-    let mut y = [0.0f64; 24];
-    let mut z = [1.0f64; 24];
-    let r = radius_knots().bracket(radius);
-    p.on_axis(&mut x, 0, wide_knots(), c.x, r);
-    p.on_axis(&mut y, 700, wide_knots(), c.y, r);
-    if p.deep {
-        p.on_axis(&mut z, 1400, high_knots(), c.z, r);
-    }
-    change_each(out, |k, _| x[k] * y[k] * z[k]);
+    let mut s = Responses {
+        x: [0.0; 24],
+        y: [0.0; 24],
+        z: [0.0; 24],
+    };
+    p.respond(&mut s, c, radius);
+    change_each(out, |k, _| s.x[k] * s.y[k] * s.z[k]);
     let wall = nearest_wall(c, p.deep);
     let weight = lambda(distance_of(wall), radius);
     if weight != 0.0 {
-        near_wall(out, &p.end_at(wall, c, &x, &y, &z), radius, weight);
+        near_wall(out, &end_at(p, wall, c, radius, &s), radius, weight);
     }
 }

@@ -3,15 +3,16 @@ ghost use Rattle.std.specs.Prelude.{◌≡◌, length};
 ghost use Rattle.doubles.specs.Norm.{sum_squares};
 ghost use Rattle.gains.specs.Gains.{normalized_of, blend_of, blended, clamped_centre, projectable, projected};
 
-use crate::Blend;
-use crate::diffuse::{Place, change_each, diffuse};
-use approximations::{cosine, sine};
+use crate::diffuse::diffuse;
+use crate::place::Place;
+use crate::{Blend, SMALL_RADIUS};
+use approximations::{change_each, cosine, sine};
 use doubles::{clamp, is_finite, sqrt};
-use extent::ZERO_FIELD_THRESHOLD;
+use extent::{Reading, ZERO_FIELD_THRESHOLD};
 use field::{PI, PLACE, STORE};
 use layout::Centre;
 
-// The squares folded in channel order from 0.
+// The squares folded in channel order from 0: std's `sum` begins at -0.
 fn sum_squares(v: &[f64]) -> f64
     ensures { result ≡ sum_squares v.now }
 {
@@ -38,7 +39,7 @@ fn blend_of(mean: u64, radius: f64) -> Blend
     if (mean == 0) | (radius < ZERO_FIELD_THRESHOLD) {
         return Blend::Point;
     }
-    if radius <= 0.05 {
+    if radius <= SMALL_RADIUS {
         let a = clamp(20.0 * radius, 0.0, 1.0);
         return Blend::Both(0.5 * cosine(PI * a / 2.0), 0.5 * sine(PI * a / 2.0));
     }
@@ -80,28 +81,28 @@ fn is_projectable(size: usize, p: usize, n: usize, given: usize, slots: usize) -
 
 // The gains of an object over place p of the store: n channels, and whether the field has Z. False,
 // and nothing is written, where it is not projectable: yes or no is all there is to tell, and a Result of
-// nothing would say no more.
+// nothing would say no more. The numbers of a place stay apart: a Place would ask of callers what is tested
+// here.
 pub fn project(
     gains: &mut [f64],
     store: &[f64],
     p: usize,
     n: usize,
     deep: bool,
-    mean: u64,
-    radius: f64,
+    reading: Reading,
     c: Centre,
     points: &[f64],
 ) -> bool
     ensures value { result
         ≡ projectable (length store.now) p n (length points.now) (length gains.old) }
-    ensures gains_after { gains.new ≡ projected store.now p n deep mean radius c points.now
-        gains.old }
+    ensures gains_after { gains.new ≡ projected store.now p n deep reading.mean reading.radius c
+        points.now gains.old }
 {
     if !is_projectable(store.len(), p, n, points.len(), gains.len()) {
         return false;
     }
     let out = &mut gains[..n];
-    let blend = blend_of(mean, radius);
+    let blend = blend_of(reading.mean, reading.radius);
     if !matches!(blend, Blend::Point) {
         let place = Place {
             store,
@@ -109,7 +110,7 @@ pub fn project(
             n,
             deep,
         };
-        diffuse(out, &place, clamped(c), radius);
+        diffuse(out, &place, clamped(c), reading.radius);
         normalize(out);
     }
     mix(out, &points[..n], blend);

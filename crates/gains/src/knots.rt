@@ -5,7 +5,7 @@ ghost use Rattle.std.specs.Float.{nan};
 ghost use Rattle.std.specs.Float.Ieee.{lt};
 ghost use Rattle.doubles.specs.Arithmetic.{zero64};
 ghost use Rattle.field.specs.Knots.{X, Z};
-ghost use Rattle.gains.specs.Lookup.{at_knot, bracket_of, centre_knots, radius_knots};
+ghost use Rattle.gains.specs.Lookup.{at_knot, between_knots, bracket_of, centre_knots, radius_knots};
 ghost use Rattle.gains.specs.Steps.Rising.{are_rising};
 
 use crate::Bracket;
@@ -88,7 +88,7 @@ pub(crate) struct Knots<'a> {
     ghost rising: { IsTrue (are_rising at.now) },
 }
 
-// The knots of a centre's x and y.
+// The knots of a centre's x and y. A function for each table: each promises the definition's list for its own.
 pub(crate) fn wide_knots() -> Knots<'static>
     ensures { result.at.now ≡ centre_knots X }
 {
@@ -153,12 +153,27 @@ impl Knots<'_> {
         if (self.at[g] < value) & !(self.at[g + 1] < value) {
             return g + 1;
         }
-        self.at.iter().take_while(|k| **k < value).count()
+        self.at.partition_point(|k| *k < value)
+    }
+
+    // Between knot k - 1 and knot k.
+    fn between(self, value: f64, k: usize) -> Bracket
+        requires { (1 ≤ k) × (k < length self.at.now) }
+        ensures { result ≡ between_knots self.entry.at.now value k }
+    {
+        let a = self.at[k - 1];
+        Bracket {
+            lower: k - 1,
+            upper: k,
+            t: (value - a) / (self.at[k] - a),
+        }
     }
 
     // The knots about value: the end one at or beyond an end. A NaN stays a NaN.
     pub(crate) fn bracket(self, value: f64) -> Bracket
-        ensures { result ≡ bracket_of self.entry.at.now value }
+        ensures value { result ≡ bracket_of self.entry.at.now value }
+        ensures order { result.lower ≤ result.upper }
+        ensures within { result.upper < length self.entry.at.now }
     {
         let last = self.at.len() - 1;
         if value <= 0.0 {
@@ -173,12 +188,6 @@ impl Knots<'_> {
         if value >= self.at[last] {
             return at_knot(last);
         }
-        let k = self.below(value);
-        let a = self.at[k - 1];
-        Bracket {
-            lower: k - 1,
-            upper: k,
-            t: (value - a) / (self.at[k] - a),
-        }
+        self.between(value, self.below(value))
     }
 }

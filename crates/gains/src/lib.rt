@@ -4,10 +4,14 @@
 mod diffuse;
 mod gains;
 mod knots;
-mod lookup;
+mod place;
 mod walls;
 
 pub use gains::project;
+
+// The radius up to which point gains have a share. A wall counts up to four times that distance, or up to
+// four radii.
+const SMALL_RADIUS: f64 = 0.05;
 
 // Two knots, and where a value stands between them.
 #[derive(Clone, Copy)]
@@ -18,7 +22,7 @@ pub struct Bracket {
 }
 
 // The nearest wall with its distance: on X and Y whether it is the far one, at 1; on Z it is the far
-// one always.
+// one always. A bool, which is made a number where it is used.
 #[derive(Clone, Copy)]
 pub enum Wall {
     X(bool, f64),

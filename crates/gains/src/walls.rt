@@ -13,7 +13,8 @@ pub(crate) fn distance_of(w: Wall) -> f64
     }
 }
 
-// The first of two where it is no farther.
+// The first of two where it is no farther. Not by min_by_key: an order of floats puts a NaN last, and here
+// one that comes first stays.
 fn nearer(a: Wall, b: Wall) -> Wall
     ensures { result ≡ nearer_of a b }
 {
@@ -24,7 +25,8 @@ fn nearer(a: Wall, b: Wall) -> Wall
     }
 }
 
-// The nearest wall: x, 1 - x, y, 1 - y and, with Z, 1 - z only; a tie to the first.
+// The nearest wall: x, 1 - x, y, 1 - y and, with Z, 1 - z only; a tie to the first. `deep` is a flag, as in
+// `project`: the look-up and this test it once each.
 pub(crate) fn nearest_wall(c: Centre, deep: bool) -> Wall
     ensures { result ≡ nearest_wall c deep }
 {

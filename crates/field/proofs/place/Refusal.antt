@@ -6,9 +6,9 @@ use native.Mathlib.Omega.{arith}
 use borrow.Author.Tests.{ltb-true, ltb-false, leb-true, leb-false, eqb-true, lt-ltb, le-ltb, not-true, not-false}
 use lib.Dec.{leb, ltb, eqb}
 use Rattle.std.specs.Prelude.{Result, Ok, Err, is_err}
+use Rattle.std.proofs.lemmas.Bool.{and_parts}
 use Rattle.layout.specs.declared.refusal.Refusal.{Refusal}
 use Rattle.layout.specs.Refusals.{refusal_of, answer_by}
-use Rattle.field.proofs.PlaceRows.{both_left, both_right}
 
 -- ---- each test is the opposite of the other
 short : (n s : ℕ) → ltb s n ≡ not (leb n s)
@@ -56,10 +56,10 @@ granted f g s p e h = ap (λ (k : ℕ). grant k s p) (sym e) ∙ not-false (gran
 -- ---- where nothing refuses
 module _ (f s p : ℕ) (h : refusal f s p ≡ false) where
   pub none_refuses : f ≡ 0
-  none_refuses = eqb-true f 0 (both_left (eqb f 0) (leb 285312 s) (both_left (eqb f 0 && leb 285312 s) (ltb p 8) (granted f f s p refl h)))
+  none_refuses = eqb-true f 0 ((and_parts (eqb f 0) (leb 285312 s) ((and_parts (eqb f 0 && leb 285312 s) (ltb p 8) (granted f f s p refl h)).0)).0)
 
   pub long_enough : 285312 ≤ s
-  long_enough = leb-true 285312 s (both_right (eqb f 0) (leb 285312 s) (both_left (eqb f 0 && leb 285312 s) (ltb p 8) (granted f f s p refl h)))
+  long_enough = leb-true 285312 s ((and_parts (eqb f 0) (leb 285312 s) ((and_parts (eqb f 0 && leb 285312 s) (ltb p 8) (granted f f s p refl h)).0)).1)
 
   pub among_eight : p < 8
-  among_eight = ltb-true p 8 (both_right (eqb f 0 && leb 285312 s) (ltb p 8) (granted f f s p refl h))
+  among_eight = ltb-true p 8 ((and_parts (eqb f 0 && leb 285312 s) (ltb p 8) (granted f f s p refl h)).1)

@@ -120,7 +120,7 @@ module _ (zs : List Float) (u : Float) where
   unfolding layer_pick
   layers_two e = rw (eq-eqb (length zs) 2 e)
 
-  layers_within : 1 ≤ length zs → T (finite u) → T (finite (get_or zs 0 nan)) → pick_end (layer_pick zs u) ≤ length zs
+  pub layers_within : 1 ≤ length zs → T (finite u) → T (finite (get_or zs 0 nan)) → pick_end (layer_pick zs u) ≤ length zs
   unfolding two_at
   layers_within some t h = go (eqb (length zs) 2) refl
     where

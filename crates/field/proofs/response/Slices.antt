@@ -14,13 +14,13 @@ pub slice_past : {A : Type 0} (i n : ℕ) (l : List A) → n ≤ i → slice i n
 slice_past i n l h = drop_of_length-le (take n l) {i = i} (rw length-take (omega arith))
 
 -- ---- a weight added at each place of a list
-module _ (base : ℕ) (w : Float) where
+module _ (w : Float) where
   -- one place more
-  pub added_more : (at : List ℕ) (i b : ℕ) (out all : List Float) → i < b → b ≤ length at → added_at base w (slice i b at) out ≡ all →
-      added_at base w (slice (i + 1) b at) (set out (base + get_or at i 0) (get_or out (base + get_or at i 0) nan ⊕ w)) ≡ all
+  pub added_more : (at : List ℕ) (i b : ℕ) (out all : List Float) → i < b → b ≤ length at → added_at w (slice i b at) out ≡ all →
+      added_at w (slice (i + 1) b at) (set out (get_or at i 0) (get_or out (get_or at i 0) nan ⊕ w)) ≡ all
   unfolding added_at
   added_more at i b out all h k e = rw (slice_more i b at 0 h k) at e
 
-  pub added_none : (out : List Float) → added_at base w [] out ≡ out
+  pub added_none : (out : List Float) → added_at w [] out ≡ out
   unfolding added_at
   added_none out = refl

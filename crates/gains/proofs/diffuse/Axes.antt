@@ -1,32 +1,20 @@
 -- The responses of the three axes: the code's tables are those of the definition. Assumes nothing.
-use Prim.Native.Nat.{ℕ, ◌+◌, ◌*◌, ◌≤◌}
-use mathlib.Core.Path.{◌≡◌, sym, ap, ◌∙◌, subst, fun_ext}
+use Prim.Native.Nat.{ℕ, ◌+◌}
+use mathlib.Core.Path.{◌≡◌, ap, ◌∙◌, fun_ext}
 use mathlib.Core.Bool.{Bool, true, false}
 use mathlib.Core.List.{List}
 use native.Mathlib.Nat.{zero-add}
-use native.Mathlib.Omega.{arith}
-use lib.Dec.{T}
-use lib.Ieee.{Float, nan, binary64, fits}
-use lib.ListN.{get_or}
+use lib.Ieee.{Float}
 use Rattle.doubles.specs.Arithmetic.{one64}
 use Rattle.gains.specs.declared.Bracket.{Bracket}
 use Rattle.layout.specs.declared.Centre.{Centre}
 use Rattle.field.specs.Knots.{X, Y, Z}
 use Rattle.gains.specs.Lookup.{centre_knots, radius_knots, bracket_of, lookup_of}
-use Rattle.gains.proofs.Lookups.{Placed, placed_radius}
-use Rattle.gains.specs.Diffuse.{Rows, place_rows, response_x, response_y, response_z}
+use Rattle.gains.specs.Diffuse.{Rows, response_x, response_y, response_z}
 
--- a table that begins in row m
-pub rows_from : (store : List Float) (base n m k : ℕ) → ◌≡◌ {A = ℕ → Float} (λ (i : ℕ). get_or store (base + m * n + (i * n + k)) nan) (λ (i : ℕ). place_rows store base n k (m + i))
-rows_from store base n m k = fun_ext (λ (i : ℕ). let j : base + m * n + (i * n + k) ≡ base + ((m + i) * n + k) = omega arith in ap (λ (a : ℕ). get_or store a nan) j)
-
--- ---- the bracket of a radius, by way of the code
-module _ (xs : List Float) (r : Float) (b : Bracket) (h : xs ≡ radius_knots) (e : b ≡ bracket_of xs r) where
-  pub of_radius : b ≡ bracket_of radius_knots r
-  of_radius = e ∙ ap (λ (ys : List Float). bracket_of ys r) h
-
-  pub radius_within : fits binary64 r ≡ true → (b.lower ≤ b.upper) × (b.upper ≤ 19)
-  radius_within d = let p = subst (Placed 19 r) (sym of_radius) (placed_radius r (subst T (sym d) tt)) in (p.order, p.within)
+-- the bracket of a radius, by way of the code
+pub of_radius : (xs : List Float) (r : Float) (b : Bracket) → xs ≡ radius_knots → b ≡ bracket_of xs r → b ≡ bracket_of radius_knots r
+of_radius xs r b h e = e ∙ ap (λ (ys : List Float). bracket_of ys r) h
 
 -- ks: the axis's knots, b: the radius's bracket
 module _ (f : Rows) (c : Centre) (r : Float) (b : Bracket) (e : b ≡ bracket_of radius_knots r) (ks : List Float) where

@@ -1,5 +1,5 @@
 -- The values above 0, gathered and put back: how many come before one, and where it stands. Assumes nothing.
-use Prim.Native.Nat.{ℕ, zero, suc, ◌+◌, ◌≤◌, ◌<◌, zero-le}
+use Prim.Native.Nat.{ℕ, zero, suc, ◌+◌, ◌≤◌, ◌<◌}
 use mathlib.Core.Path.{◌≡◌, refl, sym, ap, ◌∙◌, subst}
 use mathlib.Core.Logic.{⊎_elim}
 use mathlib.Core.Bool.{Bool, true, false, cond, true≢false}
@@ -9,8 +9,8 @@ use native.Mathlib.Omega.{arith}
 use lib.Ieee.{Float, nan, lt}
 use lib.ListN.{length, get_or, set, get_or-append}
 use lib.Seq.{get_or-set_same, get_or-set_other}
+use Rattle.std.proofs.lemmas.Bool.{cases_lt}
 use Rattle.doubles.specs.Arithmetic.{◌⊘◌, zero64}
-use Rattle.doubles.proofs.Exponents.{split}
 use Rattle.approximations.specs.Exp2.{exp2_of}
 use Rattle.approximations.specs.Log2.{log2_of}
 use Rattle.gains.specs.Lookup.{channels}
@@ -46,17 +46,13 @@ module _ (fields : List Float) where
       go true m = (omega arith, omega arith)
       go false m = (omega arith, omega arith)
 
-  pub above_most : (k : ℕ) → above_before fields k ≤ k
-  above_most zero = unfold above_before in zero-le
-  above_most (suc k) = let h = above_most k in let s = (step k).1 in omega arith
-
   pub above_less : (j k : ℕ) → j < k → above j ≡ true → above_before fields j < above_before fields k
   above_less j zero h t = absurd (omega arith)
   above_less j (suc k) h t =
       ⊎_elim
       (λ (l : j < k). let r = above_less j k l t in let s = (step k).0 in omega arith)
       (λ (l : k ≤ j). let e : j ≡ k = omega arith in let n = next j t in subst (λ (i : ℕ). above_before fields j < above_before fields (suc i)) e (omega arith))
-      (split j k)
+      (cases_lt j k)
 
   -- ---- gathering
   module _ (f : Float → Float) where
@@ -71,7 +67,7 @@ module _ (fields : List Float) where
             ⊎_elim
             (λ (i : j < k). g.at j i t)
             (λ (i : k ≤ j). let q : k ≡ j = omega arith in absurd (true≢false (sym t ∙ ap above (sym q) ∙ e)))
-            (split j k)
+            (cases_lt j k)
 
     pub gathered_more : (k m : ℕ) (l : List Float) (v : Float) → m ≡ above_before fields k → m < length l → v ≡ f (get_or fields k nan) → Gathered f fields k l → Gathered f fields (k + 1) (set l m v)
     gathered_more k m l v c r e g = record { at = find }
@@ -81,7 +77,7 @@ module _ (fields : List Float) where
             ⊎_elim
             (λ (i : j < k). let s = above_less j k i t in get_or-set_other l m (above_before fields j) v nan (λ q. absurd (omega arith)) ∙ g.at j i t)
             (λ (i : k ≤ j). let q : j ≡ k = omega arith in subst (λ (i : ℕ). get_or (set l m v) (above_before fields i) nan ≡ f (get_or fields i nan)) (sym q) (ap (λ (z : ℕ). get_or (set l m v) z nan) (sym c) ∙ get_or-set_same l m v nan r ∙ e))
-            (split j k)
+            (cases_lt j k)
 
 -- ---- the powers of what was gathered, put back
 pub powers_back : (fields l p rest out : List Float) (m : ℕ) (e : Float) → length fields ≤ length l → m ≡ above_before fields (length fields) → Gathered (λ (x : Float). log2_of x ⊘ e) fields (length fields) l → length p ≡ m → ((j : ℕ) → j < m → get_or p j nan ≡ exp2_of (get_or l j nan))

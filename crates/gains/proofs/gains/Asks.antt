@@ -4,8 +4,8 @@ use mathlib.Core.Path.{◌≡◌}
 use mathlib.Core.Bool.{true, ◌&&◌}
 use lib.Dec.{leb, ltb, leb→le, ltb→lt}
 use lib.Ieee.Fits.{and_l, and_r}
+use Rattle.std.proofs.lemmas.Float.{T_from_true}
 use Rattle.gains.specs.Gains.{projectable}
-use Rattle.extent.proofs.Tests.{yes}
 
 pub record Asked (size p n given slots : ℕ) : Type 0 where
   pub place : p < 8
@@ -21,7 +21,7 @@ asked size p n given slots h =
     let c = leb 285312 size in
     let d = leb n given in
     let e = leb n slots in
-    let abcd = and_l (a && b && c && d) e (yes h) in
+    let abcd = and_l (a && b && c && d) e (T_from_true _ h) in
     let abc = and_l (a && b && c) d abcd in
     let ab = and_l (a && b) c abc in
     record {
@@ -29,5 +29,5 @@ asked size p n given slots h =
       channels = leb→le n 24 (and_r a b ab);
       store = leb→le 285312 size (and_r (a && b) c abc);
       points = leb→le n given (and_r (a && b && c) d abcd);
-      room = leb→le n slots (and_r (a && b && c && d) e (yes h));
+      room = leb→le n slots (and_r (a && b && c && d) e (T_from_true _ h));
     }

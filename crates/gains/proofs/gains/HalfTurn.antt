@@ -10,6 +10,7 @@ use lib.Dec.{T, ltb, eqb, lit<, lit≤}
 use lib.Ieee.{Float, nan, inf, fin, up, down, round, mul, div, lt, le, eq, of_int}
 use lib.Ieee.Fits.{down_pos}
 use lib.Ieee.Positive.{num, den, den_pos}
+use Rattle.std.proofs.lemmas.Float.{T_from_true}
 use Rattle.doubles.specs.Arithmetic.{◌⊗◌, ◌⊘◌, one64, zero64}
 use Rattle.approximations.specs.Circular.{sine_of, cosine_of}
 use Rattle.doubles.specs.Range.{clamp_to}
@@ -19,7 +20,6 @@ use Rattle.approximations.proofs.Laws.{sine_range, cosine_range}
 use Rattle.gains.specs.declared.Blend.{Blend}
 use Rattle.gains.specs.declared.Blend.TheVariants.{Point, Both, Field}
 use Rattle.gains.specs.Gains.{both_of, blend_of}
-use Rattle.extent.proofs.Tests.{yes}
 use Rattle.extent.proofs.RadiusBounds.{plain, Under, under_of, le_of, Within, within, mul_at, div_at, above_num}
 
 -- ---- x is at most y: times c, and over c
@@ -131,7 +131,7 @@ module _ (r : Float) (h : lt r least ≡ false) (k : le r most ≡ true) where
   part_within : Within part one64
   part_within =
       let p = radius_plain r h k in
-      clamped_within (twenty ⊗ r) (product_within twenty r most one64 tt p tt tt (under_of r most p tt (yes k)) twenty_most)
+      clamped_within (twenty ⊗ r) (product_within twenty r most one64 tt p tt tt (under_of r most p tt (T_from_true _ k)) twenty_most)
 
   both_weights : T (not_neg (fin false 1 (negsuc 0) ⊗ cosine_of angle)) × T (not_neg (fin false 1 (negsuc 0) ⊗ sine_of angle))
   unfolding round

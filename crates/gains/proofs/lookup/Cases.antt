@@ -40,10 +40,10 @@ module _ (xs : List Float) (r : Rising xs) where
     at_first e = is_first xs v (rw r.first e)
 
     pub at_last : lt zero64 v ≡ true → le (get_or xs (length xs - 1) nan) v ≡ true → bracket_of xs v ≡ at_knot (length xs - 1)
-    at_last h e = is_last xs v (rw r.first (not_le_of_lt zero64 v tt h)) e
+    at_last h e = is_last xs v (rw r.first (not_le_of_lt zero64 v h)) e
 
     pub between_by : lt zero64 v ≡ true → le (get_or xs (length xs - 1) nan) v ≡ false → bracket_of xs v ≡ between_knots xs v (count_below v xs)
-    between_by h e = is_between_lem xs v (rw r.first (not_le_of_lt zero64 v tt h)) e
+    between_by h e = is_between_lem xs v (rw r.first (not_le_of_lt zero64 v h)) e
 
     -- some are below v, and not the last
     pub some_below : lt zero64 v ≡ true → le (get_or xs (length xs - 1) nan) v ≡ false → (1 ≤ count_below v xs) × (count_below v xs < length xs)

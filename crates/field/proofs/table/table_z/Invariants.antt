@@ -4,4 +4,4 @@ use Rattle.field.proofs.table.KnotRows.{table_z, written_z}
 use Rattle.field.proofs.table.table_z.Given as goal
 
 abbrev pub invariant-loop-knot : goal.invariant-loop-knot
-invariant-loop-knot l = l.store ≡ patched (written_z l.base l.z.n l.knot) (table_z l.z.responses.now l.base l.z.n) l.initial.store
+invariant-loop-knot l = l.place ≡ patched (written_z l.z.n l.knot) (table_z l.z.columns l.z.n) l.initial.place

@@ -5,7 +5,6 @@ use lib.Ieee.{nan, lt, of_bits}
 use Rattle.doubles.specs.Arithmetic.{zero64}
 use Rattle.gains.proofs.lookup.Writing.{written_none, written_more}
 use Rattle.gains.proofs.diffuse.Channels.{written_reads}
-use Rattle.gains.proofs.diffuse.Each.{written_all}
 use Rattle.gains.proofs.diffuse.Gathering.{above_none, above_more, above_same, scattered_some, scattered_none}
 use Rattle.gains.proofs.diffuse.scatter.Goals as goal
 use Rattle.gains.proofs.diffuse.scatter.Goals.{then-field, else-field}
@@ -35,6 +34,3 @@ loop-field-preserved c =
             rw w.out-is (written_more _ _ _ _ _ (omega arith) (scattered_none old l k t) i.2),
           )
     ]
-
-pub returns : goal.returns
-returns c = written_all _ _ _ _ (omega arith) c.loop-field.invariant.2

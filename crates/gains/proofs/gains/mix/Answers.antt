@@ -1,11 +1,10 @@
 -- `gains::gains::mix` meets its contract: each arm is a case of the definition. Assumes nothing.
 use mathlib.Core.Path.{ap, ◌∙◌}
 use borrow.Author.Rules.{rules}
-use lib.Ieee.{Float, nan, of_bits, round}
-use lib.ListN.{get_or}
+use lib.Ieee.{Float, of_bits, round}
 use Rattle.doubles.specs.Arithmetic.{◌⊕◌, ◌⊗◌, dec}
 use Rattle.gains.specs.Gains.{normalized_of}
-use Rattle.gains.proofs.diffuse.Each.{channels_map, channels_zip}
+use Rattle.gains.proofs.gains.Front.{zipped}
 use Rattle.gains.proofs.gains.Normal.{blended_point, blended_both, blended_field}
 use Rattle.gains.proofs.gains.mix.Goals as goal
 use Rattle.gains.proofs.gains.mix.Goals.{in-Both, in-Field}
@@ -23,9 +22,10 @@ returns c =
       | in-Both w ↦
           let a = w.in-Both.a in
           let b = w.in-Both.b in
-          ap normalized_of (w.gains-is ∙ w.change_each.ensures (λ k x. a ⊗ get_or p k nan ⊕ b ⊗ x) (λ k x y h q. search rules) ∙ channels_zip (λ (y x : Float). a ⊗ y ⊕ b ⊗ x) p d c.requires)
+          let f = λ (y x : Float). a ⊗ y ⊕ b ⊗ x in
+          ap normalized_of (w.gains-is ∙ zipped f p d w.change_each.new.values c.requires w.change_each.ensures.length (λ k h. let each = w.change_each.ensures.each k h in search rules))
           ∙ blended_both _ p d a b w.in-Both.is
       | in-Field w ↦
-          ap normalized_of (w.gains-is ∙ w.change_each-in-Field.ensures (λ k x. dec 5 1 ⊗ x) (λ k x y h q. search rules) ∙ channels_map (λ (x : Float). dec 5 1 ⊗ x) d)
+          ap normalized_of (w.gains-is ∙ w.change_each-in-Field.ensures.mapped (λ x. dec 5 1 ⊗ x) (λ k x y q. search rules))
           ∙ blended_field _ p d w.in-Field.is
     ]

@@ -1,9 +1,8 @@
 -- `gains::gains::normalize` meets its contract: each branch is a case of the definition. Assumes nothing.
-use Rattle.std.proofs.Common.{◌∙◌, Float, refl, rules}
+use Rattle.std.proofs.Common.{◌∙◌, refl, rules}
 use lib.Ieee.{of_bits}
 use Rattle.std.proofs.lemmas.Simd.{splat_is_map}
 use Rattle.doubles.specs.Arithmetic.{◌⊘◌, zero64}
-use Rattle.gains.proofs.diffuse.Each.{channels_map}
 use Rattle.gains.proofs.gains.Normal.{normalized_yes, normalized_no}
 use Rattle.gains.proofs.gains.normalize.Goals as goal
 
@@ -12,8 +11,7 @@ unfolding of_bits
 returns-then-is_finite-sum c =
     let v = c.args.v.now in
     let r = c.sqrt-root.result in
-    c.change_each.ensures (λ k x. x ⊘ r) (λ k x y h p. search rules)
-    ∙ channels_map (λ (x : Float). x ⊘ r) v
+    c.change_each.ensures.mapped (λ x. x ⊘ r) (λ k x y p. search rules)
     ∙ normalized_yes v _ _ c.sum_squares-sum.ensures c.is_finite.ensures r c.if-is_finite-sum.true c.sqrt-root.ensures.value
 
 pub returns-else-is_finite-sum : goal.returns-else-is_finite-sum

@@ -18,7 +18,7 @@ use Rattle.gains.proofs.gains.project.Goals.{in-Point, in_default, then-not-matc
 pub returns-then-not-is_projectable-clause-gains_after : goal.returns-then-not-is_projectable-clause-gains_after
 returns-then-not-is_projectable-clause-gains_after c =
     let a = c.args in
-    projected_no a.store.now a.p a.n a.deep a.mean a.radius a.c a.points.now a.gains.now (sym c.is_projectable.ensures ∙ c.if-not-is_projectable.true)
+    projected_no a.store.now a.p a.n a.deep a.reading.mean a.reading.radius a.c a.points.now a.gains.now (sym c.is_projectable.ensures ∙ c.if-not-is_projectable.true)
 
 pub returns-clause-gains_after : goal.returns-clause-gains_after
 returns-clause-gains_after c =
@@ -27,11 +27,11 @@ returns-clause-gains_after c =
     let g = a.gains.now in
     let w = c.blend_of-blend.result in
     let ps = take n a.points.now in
-    let field = field_of a.store.now a.p n a.deep a.radius a.c in
+    let field = field_of a.store.now a.p n a.deep a.reading.radius a.c in
     let mixed : blended w ps c.if-not-matches.out ≡ blended w ps field =
     elim c.if-not-matches.branch [
       | then-not-matches v ↦
-          let f = λ (x : Centre). channels n (λ (k : ℕ). diffuse_of (rows_in a.store.now a.p n k) a.deep x a.radius) in
+          let f = λ (x : Centre). channels n (λ (k : ℕ). diffuse_of (rows_in a.store.now a.p n k) a.deep x a.reading.radius) in
           ap (blended w ps) (v.out-is ∙ v.normalize.ensures ∙ ap normalized_of (v.diffuse.ensures ∙ ap f v.clamped.ensures))
       | else-not-matches v ↦
           elim c.match-matches.branch [
@@ -40,4 +40,4 @@ returns-clause-gains_after c =
           ]
     ] in
     ap (λ (xs : List Float). xs ++ drop n g) (c.mix.ensures ∙ mixed ∙ ap (λ (b : Blend). blended b ps field) c.blend_of-blend.ensures)
-    ∙ projected_yes a.store.now a.p n a.deep a.mean a.radius a.c a.points.now g (sym c.is_projectable.ensures ∙ c.if-not-is_projectable.false)
+    ∙ projected_yes a.store.now a.p n a.deep a.reading.mean a.reading.radius a.c a.points.now g (sym c.is_projectable.ensures ∙ c.if-not-is_projectable.false)

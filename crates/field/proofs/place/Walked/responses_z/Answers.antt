@@ -1,7 +1,8 @@
 -- The lists are those of `PlaceResponses`.
 use mathlib.Core.Path.{refl}
-use borrow.Author.Rules.{rules}
-use Rattle.field.proofs.PlaceResponses.{asked_z, first_z, left_z}
+use native.Mathlib.Omega.{arith}
+use Rattle.field.specs.Knots.{Z}
+use Rattle.field.proofs.PlaceResponses.{responses_doubles, asked_z, left_z}
 use Rattle.field.proofs.place.Walked.responses_z.Goals as goal
 
 pub invariant_of-axis : goal.invariant_of-axis
@@ -10,12 +11,17 @@ invariant_of-axis c =
     let p = asked_z w.l w.sized.0 w.sized.1 w.sized.2 w.accepted w.at w.placed _ _ c.layer_zs-zs.ensures c.layer_starts-starts.ensures in
     record { grouped = p.0; parted = p.1 }
 
-pub respond_z-requires : goal.respond_z-requires
-respond_z-requires c =
+pub invariant_of-result : goal.invariant_of-result
+invariant_of-result c =
     let w = c.args.self.now in
-    (w.accepted.some_layers, refl, first_z w.l w.sized.0 w.sized.1 w.sized.2 w.accepted w.at w.placed _ _ c.layer_zs-zs.ensures c.layer_starts-starts.ensures)
+    let r = left_z w.l w.sized.0 w.sized.1 w.sized.2 w.accepted w.at w.placed _ _ c.layer_zs-zs.ensures c.layer_starts-starts.ensures _ c.respond_z.ensures in
+    record {
+      some = omega arith;
+      few = rw w.counted w.accepted.few_active;
+      doubles = responses_doubles Z w.l _ w.n w.counted r;
+    }
 
 pub returns : goal.returns
 returns c =
     let w = c.args.self.now in
-    left_z w.l w.sized.0 w.sized.1 w.sized.2 w.accepted w.at w.placed _ _ c.layer_zs-zs.ensures c.layer_starts-starts.ensures _ c.respond_z.ensures (search rules)
+    (refl, left_z w.l w.sized.0 w.sized.1 w.sized.2 w.accepted w.at w.placed _ _ c.layer_zs-zs.ensures c.layer_starts-starts.ensures _ c.respond_z.ensures)
