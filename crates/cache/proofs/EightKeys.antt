@@ -9,8 +9,8 @@ use lib.Dec.{eqb, ltb}
 use lib.ListN.{length, take, drop, get_or, length-append, length-drop}
 use lib.Seq.{length-take-le, take_at, drop_at, take-append-le, take-take, drop-append-add, drop-drop, get_or-take}
 use Rattle.lists.specs.Lists.{all_same}
-use Rattle.lists.proofs.Chunks.{slice_take}
 use Rattle.std.specs.Prelude.{Some, None}
+use Rattle.std.proofs.lemmas.List.{drop-take}
 use Rattle.cache.specs.Places.{key_at, with_key, find_from, first_places}
 use Rattle.cache.proofs.KeyCompare.{same_equal, equal_same, eight_at}
 
@@ -48,9 +48,9 @@ module _ (keys : List ℕ) (p : ℕ) (key : List ℕ) (long : length keys ≡ 12
       let f = put_length in
       let e : 156 * q ≡ length front + r = omega arith in
       let back : 156 * p + 156 + r ≡ 156 * q = omega arith in
-      slice_take (156 * q) 156 (front ++ rest)
+      drop-take (156 * q) 156 (front ++ rest)
       ∙ ap (take 156) (ap (λ (n : ℕ). drop n (front ++ rest)) e ∙ drop-append-add front rest r ∙ drop-drop r (156 * p + 156) keys ∙ ap (λ (n : ℕ). drop n keys) back)
-      ∙ sym (slice_take (156 * q) 156 keys)
+      ∙ sym (drop-take (156 * q) 156 keys)
 
   -- and the others stay
   pub with_other : (q : ℕ) → (p ≡ q → ⊥) → key_at (with_key keys p key) q ≡ key_at keys q

@@ -2,18 +2,20 @@
 use Prim.Native.Nat.{ℕ, zero, suc, ◌+◌, ◌%◌, ◌<◌, ◌≤◌, min}
 use mathlib.Core.Path.{◌≡◌, refl, sym, ap, ap₂, ◌∙◌}
 use mathlib.Core.Bool.{Bool, true, false, ◌&&◌, cond, true≢false}
-use mathlib.Core.List.{List, [], ◌∷◌}
+use mathlib.Core.List.{List, [], ◌∷◌, map}
 use native.Mathlib.Nat.{add-zero, add_assoc}
 use native.Mathlib.Omega.{arith}
 use borrow.Author.Tests.{eq-eqb, ne_eqb, eqb-true, eqb-false}
 use lib.Bits.{bit_or, bit_xor, xor_add_and, xor_self, or_add_and, and_le_l, and_le_r}
 use lib.Dec.{eqb}
-use lib.ListN.{length, take, drop, get_or}
+use lib.ListN.{length, take, get_or}
 use lib.Seq.{slice, take_all, get_or-drop, get_or-take}
 use Rattle.lists.specs.Lists.{all_same}
 use Rattle.lists.proofs.Takes.{take_min}
 use Rattle.lists.proofs.Loops.{slice_more, slice_done}
-use Rattle.std.specs.Prelude.{Option, Some, None}
+use Rattle.std.specs.Prelude.{Option, Some}
+use Rattle.std.specs.List.{find, range_with_len}
+use Rattle.std.proofs.lemmas.Bool.{and_parts}
 use Rattle.cache.specs.Places.{key_at, find_from, first_places}
 
 -- ---- equal word by word is equal
@@ -25,16 +27,12 @@ and-true : (a : Bool) → (a && true) ≡ a
 and-true true = refl
 and-true false = refl
 
-and_both : (a b : Bool) → (a && b) ≡ true → (a ≡ true) × (b ≡ true)
-and_both true b e = (refl, e)
-and_both false b e = absurd (true≢false (sym e))
-
 pub same_equal : (xs ys : List ℕ) → all_same eqb xs ys ≡ true → xs ≡ ys
 same_equal [] [] e = refl
 same_equal [] (y ∷ ys) e = absurd (true≢false (sym e))
 same_equal (x ∷ xs) [] e = absurd (true≢false (sym e))
 same_equal (x ∷ xs) (y ∷ ys) e =
-    let p = and_both (eqb x y) (all_same eqb xs ys) e in
+    let p = and_parts (eqb x y) (all_same eqb xs ys) e in
     ap₂ (λ (a : ℕ) (r : List ℕ). a ∷ r) (eqb-true x y p.0) (same_equal xs ys p.1)
 
 pub equal_same : (xs : List ℕ) → all_same eqb xs xs ≡ true
@@ -98,9 +96,21 @@ module _ (words : List ℕ) (from : ℕ) (key : List ℕ) where
       let at : get_or (slice from (from + 156) words) i 0 ≡ get_or words (from + i) 0 = get_or-drop from (take (from + 156) words) i 0 ∙ get_or-take (from + 156) words (from + i) 0 (omega arith) in
       sym (not_same (slice from (from + 156) words) key (λ e. q (sym at ∙ ap (λ (l : List ℕ). get_or l i 0) e)))
 
--- ---- a loop that looks at the places, from the oldest on
+-- ---- a search through the places, from the oldest on
 abbrev pub eight : List ℕ
 eight = 0 ∷ 1 ∷ 2 ∷ 3 ∷ 4 ∷ 5 ∷ 6 ∷ 7 ∷ []
+
+range_is : (n : ℕ) → n ≤ 8 → range_with_len 0 n ≡ first_places n
+range_is zero h = refl
+range_is (suc zero) h = refl
+range_is (suc (suc zero)) h = refl
+range_is (suc (suc (suc zero))) h = refl
+range_is (suc (suc (suc (suc zero)))) h = refl
+range_is (suc (suc (suc (suc (suc zero))))) h = refl
+range_is (suc (suc (suc (suc (suc (suc zero)))))) h = refl
+range_is (suc (suc (suc (suc (suc (suc (suc zero))))))) h = refl
+range_is (suc (suc (suc (suc (suc (suc (suc (suc zero)))))))) h = refl
+range_is (suc (suc (suc (suc (suc (suc (suc (suc (suc n))))))))) h = absurd (omega arith)
 
 pub eight_at : (i : ℕ) → i < 8 → get_or eight i 0 ≡ i
 eight_at zero h = refl
@@ -113,28 +123,19 @@ eight_at (suc (suc (suc (suc (suc (suc zero)))))) h = refl
 eight_at (suc (suc (suc (suc (suc (suc (suc zero))))))) h = refl
 eight_at (suc (suc (suc (suc (suc (suc (suc (suc i)))))))) h = absurd (omega arith)
 
-pub places_more : (i n : ℕ) → i < n → n ≤ 8 → drop i (first_places n) ≡ i ∷ drop (i + 1) (first_places n)
-places_more i n h k = slice_more i n eight 0 h k ∙ ap (λ (j : ℕ). j ∷ drop (i + 1) (first_places n)) (eight_at i (omega arith))
+-- what is found among these places
+pub found_places : (words key : List ℕ) (p n : ℕ) → n ≤ 8 → find (λ (q : ℕ). all_same eqb (key_at words q) key) (map (λ (i : ℕ). (p + i) % 8) (range_with_len 0 n)) ≡ find_from words key p (first_places n)
+found_places words key p n h = ap (λ (is : List ℕ). find holds (map at is)) (range_is n h) ∙ found (first_places n)
+  where
+    at : ℕ → ℕ
+    at i = (p + i) % 8
 
-pub places_done : (i n : ℕ) → i ≡ n → drop i (first_places n) ≡ []
-places_done i n e = slice_done i n eight e
+    holds : ℕ → Bool
+    holds q = all_same eqb (key_at words q) key
 
-module _ (words key : List ℕ) (p : ℕ) where
-  -- the places from the oldest + i on
-  pub record Finding (n i : ℕ) : Type 0 where
-    pub reached : i ≤ n
-    pub few : n ≤ 8
-    pub same : find_from words key p (drop i (first_places n)) ≡ find_from words key p (first_places n)
-
-  module _ (n i : ℕ) (w : Finding n i) where
-    pub finding_here : i < n → all_same eqb (key_at words ((p + i) % 8)) key ≡ true → Some ((p + i) % 8) ≡ find_from words key p (first_places n)
-    finding_here h q = sym (rw (places_more i n h w.few, q)) ∙ w.same
-
-    pub finding_next : i < n → all_same eqb (key_at words ((p + i) % 8)) key ≡ false → Finding n (i + 1)
-    finding_next h q = record { reached = omega arith; few = w.few; same = sym (rw (places_more i n h w.few, q)) ∙ w.same }
-
-    pub finding_done : n ≤ i → None ≡ find_from words key p (first_places n)
-    finding_done h = sym (ap (find_from words key p) (places_done i n (omega arith))) ∙ w.same
+    found : (is : List ℕ) → find holds (map at is) ≡ find_from words key p is
+    found [] = refl
+    found (i ∷ is) = ap (cond (holds (at i)) (Some (at i))) (found is)
 
 -- the places from a remainder on are those from the number itself on, and there are eight at most
 from_remainder : (keys key : List ℕ) (p : ℕ) (is : List ℕ) → find_from keys key (p % 8) is ≡ find_from keys key p is

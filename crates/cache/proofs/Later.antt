@@ -7,11 +7,11 @@ use native.Mathlib.Omega.{arith}
 use borrow.Author.Tests.{leb-true, ltb-true}
 use lib.Dec.{leb, ltb}
 use lib.Ieee.{Float, nan, inf, fin, le, lt, eq, round}
+use Rattle.std.proofs.lemmas.Bool.{and_parts}
 use Rattle.doubles.specs.Arithmetic.{zero64, dec}
 use Rattle.doubles.specs.Range.{is_between}
 use Rattle.layout.specs.Questions.{first_no}
 use Rattle.layout.proofs.QuestionLists.{yes_first}
-use Rattle.layout.proofs.QuestionsCounted.{both}
 use Rattle.layout.specs.declared.Centre.{Centre}
 use Rattle.cache.specs.declared.Ring.{Ring}
 use Rattle.cache.specs.Questions.{is_gain, question11, question12, question13, question14, lent_questions, state_questions}
@@ -37,6 +37,6 @@ module _ (c : Centre) (points : List Float) (n room size : ℕ) (r : Ring) where
       let b = yes_first (question12 n points) _ 12 (omega arith) a.1 in
       let d = yes_first (question13 n room size) _ 13 (omega arith) b.1 in
       let g = yes_first (question14 r.count r.oldest) _ 14 (omega arith) d.1 in
-      let h = both (leb r.count 8) (ltb r.oldest 8) g.0 in
-      let i = both (leb n room) (leb 285312 size) d.0 in
+      let h = and_parts (leb r.count 8) (ltb r.oldest 8) g.0 in
+      let i = and_parts (leb n room) (leb 285312 size) d.0 in
       (leb-true r.count 8 h.0, ltb-true r.oldest 8 h.1, leb-true 285312 size i.1)

@@ -8,7 +8,7 @@ ghost use Rattle.cache.specs.Questions.{is_gain, question11, question12, questio
 use crate::Ring;
 use doubles::{is_between, is_finite};
 use field::STORE;
-use layout::{Centre, Refusal};
+use layout::{Centre, Refusal, ask};
 
 // Question 11.
 fn is_finite_centre(c: Centre) -> bool
@@ -31,7 +31,7 @@ fn are_gains(points: &[f64]) -> bool
     points.iter().all(|g| is_gain(*g))
 }
 
-// Question 12.
+// Question 12. n is the room's, no length of points: whether they are equal is what is asked.
 fn are_point_gains(n: usize, points: &[f64]) -> bool
     ensures { result ≡ question12 n points.now }
 {
@@ -65,17 +65,8 @@ pub fn later_no(
     ensures { result ≡ answer_by (first_no (lent_questions c points.now n room size
         ++ state_questions r.count r.oldest)) tt }
 {
-    if !is_finite_centre(c) {
-        return Err(Refusal::Centre);
-    }
-    if !are_point_gains(n, points) {
-        return Err(Refusal::Points);
-    }
-    if !is_room(n, room, size) {
-        return Err(Refusal::Slices);
-    }
-    if !is_ring(r) {
-        return Err(Refusal::State);
-    }
-    Ok(())
+    ask(is_finite_centre(c), Refusal::Centre)?;
+    ask(are_point_gains(n, points), Refusal::Points)?;
+    ask(is_room(n, room, size), Refusal::Slices)?;
+    ask(is_ring(r), Refusal::State)
 }

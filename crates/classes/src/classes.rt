@@ -40,7 +40,7 @@ const LW: u64 = 0x774c;
 const RW: u64 = 0x7752;
 
 // The classes of a speaker.
-#[derive(Clone, Copy)]
+#[derive(Clone, Copy, Default)]
 struct Classes {
     screen: bool,
     centre: bool,
@@ -49,14 +49,6 @@ struct Classes {
     side: bool,
 }
 
-const NONE: Classes = Classes {
-    screen: false,
-    centre: false,
-    surround: false,
-    back: false,
-    side: false,
-};
-
 // The classes of the speaker of a name, where the name has any.
 fn classes_of(name: u64, five: bool) -> Option<Classes>
     ensures { result ≡ classes_of name five }
@@ -64,28 +56,31 @@ fn classes_of(name: u64, five: bool) -> Option<Classes>
     match name {
         FL | FR | FLC | FRC => Some(Classes {
             screen: true,
-            ..NONE
+            ..Classes::default()
         }),
         FC => Some(Classes {
             screen: true,
             centre: true,
-            ..NONE
+            ..Classes::default()
         }),
         LS | RS => Some(Classes {
             surround: true,
             back: five,
             side: !five,
-            ..NONE
+            ..Classes::default()
         }),
         SIL | SIR => Some(Classes {
             surround: true,
             side: !five,
-            ..NONE
+            ..Classes::default()
         }),
-        LB | RB | BL | BR | BC => Some(Classes { back: true, ..NONE }),
+        LB | RB | BL | BR | BC => Some(Classes {
+            back: true,
+            ..Classes::default()
+        }),
         LW | RW => Some(Classes {
             side: !five,
-            ..NONE
+            ..Classes::default()
         }),
         _ => None,
     }

@@ -1,14 +1,15 @@
 -- What stays where two parts of a key are written; parts with zeros behind them.
-use Prim.Native.Nat.{ℕ, ◌+◌, ◌-◌, ◌<◌, ◌≤◌}
+use Prim.Native.Nat.{ℕ, zero, suc, ◌+◌, ◌-◌, ◌<◌, ◌≤◌}
 use mathlib.Core.Path.{◌≡◌, sym, ap, ap₂, ◌∙◌}
 use mathlib.Core.Bool.{Bool}
 use mathlib.Core.List.{List, ◌++◌}
 use native.Mathlib.Omega.{arith}
-use lib.ListN.{length, take, drop, get_or, length-append, get_or-append}
-use lib.Seq.{slice, paste, length-paste, take-paste, drop-paste, take_all, length-take-le, take-append-le, get_or-take, get_or-drop, ext_get_or}
+use lib.ListN.{length, take, drop, set, get_or, length-append, get_or-append}
+use lib.Seq.{slice, paste, paste-zero, paste-suc, length-paste, take-paste, drop-paste, take_all, length-take-le, take-append-le, get_or-take, get_or-drop, ext_get_or}
 use Rattle.std.proofs.lemmas.List.{drop_at, take-take}
 use Rattle.keys.specs.Keys.{filled_to}
 use Rattle.keys.specs.Steps.{two_parts}
+use Rattle.keys.proofs.KeyParts.{paste_set}
 use Rattle.keys.proofs.KeyWhole.{length_filled}
 use Rattle.kept_anchors.specs.Steps.Kept.{picked, picked_parts}
 use Rattle.kept_anchors.proofs.Reached.{part_at, part_long}
@@ -31,6 +32,18 @@ module _ (d : List ℕ) (at : ℕ) (s : List ℕ) (n : ℕ) (r : at ≤ length d
       ∙ ap (λ (t : List ℕ). get_or t (j - (at + n)) 0) (drop-paste d at s n r q)
       ∙ get_or-drop (at + n) d (j - (at + n)) 0
       ∙ ap (to d) (sym e)
+
+-- two parts apart are written in either order
+pub paste_apart : (d : List ℕ) (a : ℕ) (xs : List ℕ) (b : ℕ) (ys : List ℕ) (m n : ℕ) → a + n ≤ b → b + m ≤ length d → n ≤ length xs → m ≤ length ys → paste (paste d a xs n) b ys m ≡ paste (paste d b ys m) a xs n
+paste_apart d a xs b ys m zero h r p q = ap (λ (l : List ℕ). paste l b ys m) (sym (paste-zero d a xs)) ∙ paste-zero (paste d b ys m) a xs
+paste_apart d a xs b ys m (suc n) h r p q =
+    let x = get_or xs n 0 in
+    let once = length-paste d a xs n (omega arith) (omega arith) in
+    let other = length-paste d b ys m r q in
+    ap (λ (l : List ℕ). paste l b ys m) (sym (paste-suc d a xs n 0 (omega arith) (omega arith)))
+    ∙ sym (paste_set (paste d a xs n) b ys m (a + n) x (omega arith) (omega arith))
+    ∙ ap (λ (l : List ℕ). set l (a + n) x) (paste_apart d a xs b ys m n (omega arith) r (omega arith) q)
+    ∙ paste-suc (paste d b ys m) a xs n 0 (omega arith) (omega arith)
 
 -- ---- two parts
 module _ (a b n : ℕ) (us vs old : List ℕ) (p : n ≤ length us) (q : n ≤ length vs) (apart : a + n ≤ b) (room : b + n ≤ length old) where
@@ -77,29 +90,40 @@ module _ (a b n : ℕ) (us vs old : List ℕ) (p : length us ≤ n) (q : length 
       same_part c m filled old (omega (arith, filled_long)) k
       (λ j g f. two_behind a b n (filled_to n us) (filled_to n vs) old firsts_filled seconds_filled apart room j (omega arith))
 
--- ---- the first of two parts written anew
-module _ (a b n : ℕ) (xs key : List ℕ) (p : length xs ≡ n) (apart : a + n ≤ b) (room : b + n ≤ length key) where
+-- ---- a part written anew
+module _ (a n : ℕ) (xs key : List ℕ) (p : length xs ≡ n) (room : a + n ≤ length key) where
   abbrev anew : List ℕ
   anew = paste key a xs n
 
   anew_long : length anew ≡ length key
-  anew_long = length-paste key a xs n (omega arith) (omega arith)
+  anew_long = length-paste key a xs n room (omega arith)
+
+  pub before_anew : (c m : ℕ) → c + m ≤ a → slice c (c + m) anew ≡ slice c (c + m) key
+  before_anew c m h =
+      same_part c m anew key (omega (arith, anew_long)) (omega arith) (λ j g f. paste_before key a xs n (omega arith) j (omega arith))
+
+  pub behind_anew : (c m : ℕ) → a + n ≤ c → c + m ≤ length key → slice c (c + m) anew ≡ slice c (c + m) key
+  behind_anew c m h k =
+      same_part c m anew key (omega (arith, anew_long)) k (λ j g f. paste_behind key a xs n (omega arith) j (omega arith) (omega arith))
+
+-- ---- the first of two parts written anew
+module _ (a b n : ℕ) (xs key : List ℕ) (p : length xs ≡ n) (apart : a + n ≤ b) (room : b + n ≤ length key) where
+  abbrev first_new : List ℕ
+  first_new = paste key a xs n
 
   front_long : length (take a key) ≡ a
   front_long = length-take-le a key (omega arith)
 
-  first_anew : slice a (a + n) anew ≡ xs
+  first_anew : slice a (a + n) first_new ≡ xs
   first_anew =
       ap (drop a) (take-paste key a xs n (omega arith) (omega arith))
       ∙ drop_at (take a key) (take n xs) a front_long
       ∙ take_all n xs (omega arith)
 
-  second_anew : slice b (b + n) anew ≡ slice b (b + n) key
-  second_anew =
-      same_part b n anew key (omega (arith, anew_long)) room
-      (λ j g f. paste_behind key a xs n (omega arith) j (omega arith) (omega arith))
+  second_anew : slice b (b + n) first_new ≡ slice b (b + n) key
+  second_anew = behind_anew a n xs key p (omega arith) b n apart room
 
-  over_anew : (us : List ℕ) → paste anew a us n ≡ paste key a us n
+  over_anew : (us : List ℕ) → paste first_new a us n ≡ paste key a us n
   over_anew us =
       ap₂ (λ (l r : List ℕ). l ++ take n us ++ r)
       (take-append-le a (take a key ++ take n xs) (drop (a + n) key) (omega (arith, front_long, length-append (take a key) (take n xs)))
@@ -108,5 +132,5 @@ module _ (a b n : ℕ) (xs key : List ℕ) (p : length xs ≡ n) (apart : a + n 
       (drop-paste key a xs n (omega arith) (omega arith))
 
   -- what is kept of them
-  pub anew_picked : (bs : List Bool) → picked_parts a b n bs (slice a (a + n) anew) (slice b (b + n) anew) anew ≡ picked_parts a b n bs xs (slice b (b + n) key) key
+  pub anew_picked : (bs : List Bool) → picked_parts a b n bs (slice a (a + n) first_new) (slice b (b + n) first_new) first_new ≡ picked_parts a b n bs xs (slice b (b + n) key) key
   anew_picked bs = rw (first_anew, second_anew, over_anew (filled_to n (picked bs xs)))

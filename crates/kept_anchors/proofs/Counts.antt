@@ -1,11 +1,10 @@
 -- How many flags are set.
-use Prim.Native.Nat.{ℕ, zero, suc, ◌+◌, ◌≤◌}
+use Prim.Native.Nat.{◌+◌}
 use mathlib.Core.Path.{◌≡◌, refl, sym}
 use mathlib.Core.Bool.{Bool, true, false, cond}
 use mathlib.Core.List.{List, [], ◌∷◌}
 use native.Mathlib.Omega.{arith}
-use lib.ListN.{length, take, drop, length-take}
-use lib.Seq.{slice}
+use lib.ListN.{length}
 use Rattle.std.specs.List.{count_by}
 use Rattle.std.proofs.lemmas.List.Recursion.{is_count_by}
 use Rattle.kept_anchors.specs.Steps.Kept.{count_set, picked}
@@ -24,12 +23,3 @@ count_picked [] (x ∷ xs) h = refl
 count_picked (b ∷ bs) [] h = absurd (omega arith)
 count_picked (true ∷ bs) (x ∷ xs) h = omega (arith, count_picked bs xs (omega arith))
 count_picked (false ∷ bs) (x ∷ xs) h = omega (arith, count_picked bs xs (omega arith))
-
-drop_past : {A : Type 0} (n : ℕ) (l : List A) → length l ≤ n → drop n l ≡ []
-drop_past zero [] h = refl
-drop_past zero (x ∷ xs) h = let z : ⊥ = omega arith in absurd z
-drop_past (suc n) [] h = refl
-drop_past (suc n) (x ∷ xs) h = drop_past n xs (omega arith)
-
-pub slice_past : {A : Type 0} (i end : ℕ) (l : List A) → end ≤ i → slice i end l ≡ []
-slice_past i end l h = drop_past i (take end l) (omega (arith, length-take end l))

@@ -1,20 +1,20 @@
 -- A loop over n entries of two lists writes those whose flags are set to the front of two parts of a key, over what is read already.
 use Prim.Native.Nat.{ℕ, zero, suc, ◌+◌, ◌-◌, ◌<◌, ◌≤◌}
-use mathlib.Core.Path.{◌≡◌, refl, sym, ap, ◌∙◌}
+use mathlib.Core.Path.{◌≡◌, refl, sym, ap, ap₂, ◌∙◌}
 use mathlib.Core.Bool.{Bool, true, false}
 use mathlib.Core.List.{List, [], ◌∷◌, ◌++◌}
 use native.Mathlib.Numerals.{add-one}
 use native.Mathlib.Omega.{arith}
-use lib.ListN.{length, take, drop, set, get_or, replicate, length-append}
-use lib.Seq.{paste, paste-zero, take-append-le, take_all, get_or_at, get_or-set_other, get_or-append_right}
-use Rattle.std.proofs.lemmas.List.{get_or-drop, get_or-replicate}
+use lib.ListN.{length, take, drop, set, get_or, replicate, length-append, length-replicate}
+use lib.Seq.{paste, paste-zero, length-paste, take-paste, drop-paste, take-append-le, take_all, get_or_at, get_or-set_other}
+use borrow.Rule.Slice.PartMut.{put_mid}
+use Rattle.std.proofs.lemmas.List.{append_assoc, drop-drop, drop-replicate}
 use Rattle.keys.specs.Keys.{filled_to}
 use Rattle.keys.specs.Steps.{two_parts}
 use Rattle.keys.proofs.KeyParts.{Packed, packed_more}
-use Rattle.keys.proofs.KeyWhole.{length_filled}
 use Rattle.kept_anchors.specs.Steps.Kept.{picked, picked_parts}
 use Rattle.kept_anchors.proofs.Picked.{none_picked}
-use Rattle.kept_anchors.proofs.Apart.{two_between, two_behind}
+use Rattle.kept_anchors.proofs.Apart.{paste_apart, two_between, two_behind}
 
 -- ---- one entry more
 picked_keep : {A : Type 0} (bs : List Bool) (xs : List A) (i : ℕ) (d : A) → i < length bs → i < length xs → get_or bs i false ≡ true → picked bs (take (suc i) xs) ≡ picked bs (take i xs) ++ (get_or xs i d ∷ [])
@@ -46,30 +46,17 @@ pub record Sifted (a b n : ℕ) (bs : List Bool) (xs ys old key : List ℕ) (k i
   pub beside : length (picked bs (take i ys)) ≡ k
   pub same : key ≡ two_parts a (picked bs (take i xs)) b (picked bs (take i ys)) k old
 
--- ---- the loop behind it: zeros up to j
-pub record Zeroed (a b n : ℕ) (bs : List Bool) (xs ys old key : List ℕ) (j : ℕ) : Type 0 where
-  pub packed : Packed a (filled_to n (picked bs xs)) b (filled_to n (picked bs ys)) n old key j
-  pub firsts : length (picked bs xs) ≤ j
-  pub seconds : length (picked bs ys) ≤ j
-
--- behind a list in n zeros stand zeros
-behind : (n : ℕ) (us : List ℕ) (j : ℕ) → length us ≤ j → j < n → 0 ≡ get_or (filled_to n us) j 0
-behind n us j h k =
-    sym (get_or-append_right us (drop (length us) (replicate n 0)) j 0 h
-    ∙ get_or-drop (length us) (replicate n 0) (j - length us) 0
-    ∙ get_or-replicate n (length us + (j - length us)) 0 0 (omega arith))
-
-module _ (a b n : ℕ) (bs : List Bool) (xs ys old key : List ℕ) (j : ℕ) (w : Zeroed a b n bs xs ys old key j) where
-  pub zeroed_more : j < n → Zeroed a b n bs xs ys old (set (set key (a + j) 0) (b + j) 0) (j + 1)
-  zeroed_more h =
-      record {
-        packed = packed_more a (filled_to n (picked bs xs)) b (filled_to n (picked bs ys)) n old key j (a + j) (b + j) 0 0 0 0 w.packed h refl refl (behind n (picked bs xs) j w.firsts h) (behind n (picked bs ys) j w.seconds h);
-        firsts = omega (arith, w.firsts);
-        seconds = omega (arith, w.seconds);
-      }
-
-  pub zeroed_done : n ≤ j → key ≡ picked_parts a b n bs xs ys old
-  zeroed_done h = let e : j ≡ n = omega (arith, w.packed.reached) in rw e at w.packed.same
+-- ---- a part written in two steps
+put_behind : (d : List ℕ) (at : ℕ) (us zs : List ℕ) (k m : ℕ) → length us ≡ k → length zs ≡ m → at + k + m ≤ length d → put_mid (at + k) m (paste d at us k) zs ≡ paste d at (us ++ zs) (k + m)
+put_behind d at us zs k m p q r =
+    let before : take (at + k) (paste d at us k) ≡ take at d ++ us =
+    take-paste d at us k (omega arith) (omega arith) ∙ ap (λ (l : List ℕ). take at d ++ l) (take_all k us (omega arith)) in
+    let after : drop m (drop (at + k) (paste d at us k)) ≡ drop (at + (k + m)) d =
+    ap (drop m) (drop-paste d at us k (omega arith) (omega arith))
+    ∙ drop-drop m (at + k) d
+    ∙ ap (λ (i : ℕ). drop i d) (omega arith) in
+    let all : take (k + m) (us ++ zs) ≡ us ++ zs = take_all (k + m) (us ++ zs) (omega (arith, length-append us zs)) in
+    rw (before, after, all) (sym (append_assoc (take at d ++ us) zs (drop (at + (k + m)) d)) ∙ ap (λ (l : List ℕ). l ++ drop (at + (k + m)) d) (append_assoc (take at d) us zs))
 
 module _ (a b n : ℕ) (bs : List Bool) (xs ys old : List ℕ) where
   pub sifted_none : n ≤ length bs → length xs ≡ n → length ys ≡ n → a + n ≤ b → b + n ≤ length old → Sifted a b n bs xs ys old old 0 0
@@ -164,25 +151,32 @@ module _ (a b n : ℕ) (bs : List Bool) (xs ys old : List ℕ) where
       pub sifted_count : k ≡ length (picked bs xs)
       sifted_count = sym w.written ∙ ap (λ (l : List ℕ). length (picked bs l)) firsts_all
 
-      -- zeros are written from here on
-      pub zeroed_none : Zeroed a b n bs xs ys old key k
-      zeroed_none =
+      -- zeros behind both parts
+      pub zeros_behind : (zs ws : List ℕ) → zs ≡ replicate (n - k) 0 → ws ≡ replicate (n - k) 0 → put_mid (b + k) (b + n - (b + k)) (put_mid (a + k) (a + n - (a + k)) key zs) ws ≡ picked_parts a b n bs xs ys old
+      zeros_behind zs ws p q =
           let us = picked bs xs in
           let vs = picked bs ys in
+          let m = n - k in
           let lu : length us ≡ k = sym sifted_count in
           let lv : length vs ≡ k = ap (λ (l : List ℕ). length (picked bs l)) (sym seconds_all) ∙ w.beside in
-          let zero_us : List ℕ = drop (length us) (replicate n 0) in
-          let zero_vs : List ℕ = drop (length vs) (replicate n 0) in
-          record {
-            packed = record {
-              reached = omega (arith, w.few, w.reached);
-              firsts = omega (arith, length_filled n us (omega (arith, w.few, w.reached, lu)));
-              seconds = omega (arith, length_filled n vs (omega (arith, w.few, w.reached, lv)));
-              apart = w.apart;
-              room = w.room;
-              long = w.long;
-              same = rw (take-append-le k us zero_us (omega (arith, lu)), take-append-le k vs zero_vs (omega (arith, lv))) (rw (firsts_all, seconds_all) at w.same);
-            };
-            firsts = omega (arith, lu);
-            seconds = omega (arith, lv);
-          }
+          let lz : length zs ≡ m = ap length p ∙ length-replicate m 0 in
+          let lw : length ws ≡ m = ap length q ∙ length-replicate m 0 in
+          let now : key ≡ two_parts a us b vs k old = rw (firsts_all, seconds_all) at w.same in
+          let em : k + m ≡ n = omega (arith, w.few, w.reached) in
+          let la : length (us ++ zs) ≡ n = length-append us zs ∙ omega (arith, lu, lz, em) in
+          let lo : length (paste old b vs k) ≡ length old = length-paste old b vs k (omega (arith, w.room, em)) (omega (arith, lv)) in
+          let ln : length (paste old a (us ++ zs) n) ≡ length old = length-paste old a (us ++ zs) n (omega (arith, w.apart, w.room)) (omega (arith, la)) in
+          let ez : us ++ zs ≡ filled_to n us = ap (λ (l : List ℕ). us ++ l) (p ∙ ap (λ (j : ℕ). replicate (n - j) 0) (sym lu) ∙ sym (drop-replicate (length us) n 0)) in
+          let ew : vs ++ ws ≡ filled_to n vs = ap (λ (l : List ℕ). vs ++ l) (q ∙ ap (λ (j : ℕ). replicate (n - j) 0) (sym lv) ∙ sym (drop-replicate (length vs) n 0)) in
+          let turned : key ≡ paste (paste old b vs k) a us k = now ∙ paste_apart old a us b vs k k (omega (arith, w.apart, em)) (omega (arith, w.room, em)) (omega (arith, lu)) (omega (arith, lv)) in
+          let fa : a + n - (a + k) ≡ m = omega arith in
+          let fb : b + n - (b + k) ≡ m = omega arith in
+          let first : put_mid (a + k) (a + n - (a + k)) key zs ≡ paste (paste old a (us ++ zs) n) b vs k =
+          ap₂ (λ (i : ℕ) (l : List ℕ). put_mid (a + k) i l zs) fa turned
+          ∙ put_behind (paste old b vs k) a us zs k m lu lz (omega (arith, lo, em, w.apart, w.room))
+          ∙ ap (paste (paste old b vs k) a (us ++ zs)) em
+          ∙ sym (paste_apart old a (us ++ zs) b vs k n w.apart (omega (arith, w.room, em)) (omega (arith, la)) (omega (arith, lv))) in
+          ap₂ (λ (i : ℕ) (l : List ℕ). put_mid (b + k) i l ws) fb first
+          ∙ put_behind (paste old a (us ++ zs) n) b vs ws k m lv lw (omega (arith, ln, em, w.room))
+          ∙ ap (paste (paste old a (us ++ zs) n) b (vs ++ ws)) em
+          ∙ ap₂ (λ (l r : List ℕ). paste (paste old a l n) b r n) ez ew

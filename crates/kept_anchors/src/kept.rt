@@ -1,27 +1,33 @@
 // A key with just the anchors that are kept, told by one flag for each anchor, in order; empty rows
 // and layers go. It is packed in place: what stays moves to the front of its part, zeros behind it.
 // The parts of a key are told in crate keys.
-ghost use Rattle.std.specs.Prelude.{◌≡◌, ◌+◌, ◌≤◌, length, replicate};
+ghost use Rattle.std.specs.Prelude.{◌≡◌, ◌+◌, ◌≤◌, min, false, map, length, replicate};
 ghost use Rattle.std.proofs.Math.Seq.{slice};
+ghost use Rattle.lists.specs.Lists.{total};
 ghost use Rattle.keys.specs.Keys.{filled_to};
-ghost use Rattle.kept_anchors.specs.Steps.Kept.{count_set, counts_of, picked_parts, kept_key};
+ghost use Rattle.kept_anchors.specs.Steps.Kept.{count_set, is_positive, counts_of, picked_parts, kept_key};
 
 use keys::{ANCHOR_NAMES, DEPTH, LAYER_COUNTS, ROW_COUNTS, XS, YS, ZS};
 use layout::{covered_layers, next_start, reach};
 
-// How many flags are set in each part, where the parts have these lengths; zeros stay behind them.
-// The counts are written in place: an array handed back is copied twice, which takes 30 ns.
-fn counts_by<const N: usize>(lengths: &[u64], flags: &[bool; 24], counts: &mut [u64; N])
-    requires room { length lengths.now ≤ N }
-    requires zeros { counts.old ≡ replicate N 0 }
-    ensures { counts.new ≡ filled_to N (counts_of lengths.now flags.now) }
+// Each length becomes how many flags are set in its part, and `any` tells which parts have one;
+// answers where the last part ends. In one pass: one for each takes 88 instructions more a call.
+fn count_parts(lengths: &mut [u64], flags: &[bool; 24], any: &mut [bool; 24]) -> usize
+    requires room { length lengths.old ≤ 24 }
+    requires none { any.old ≡ replicate 24 false }
+    ensures counts { lengths.new ≡ counts_of lengths.old flags.now }
+    ensures any { any.new ≡ map is_positive (filled_to 24 lengths.new) }
+    ensures end { result ≡ min (total lengths.old) 24 }
 {
     let mut at = 0;
-    for (i, n) in lengths.iter().enumerate() {
+    for (i, n) in lengths.iter_mut().enumerate() {
         let end = next_start(at, *n as usize);
-        counts[i] = flags[at..end].iter().filter(|f| **f).count() as u64;
+        let count = flags[at..end].iter().filter(|f| **f).count();
+        *n = count as u64;
+        any[i] = count != 0;
         at = end;
     }
+    at
 }
 
 // Moves the entries that are kept to the front of their two parts, which begin at a and at b, and
@@ -34,6 +40,7 @@ fn sift(key: &mut [u64; 156], a: usize, b: usize, kept: &[bool]) -> usize
 {
     let n = kept.len();
     let mut k = 0;
+    // Two offsets into one array: two slices to write to would have to be split off it at each call.
     for (i, keep) in kept.iter().enumerate() {
         if *keep {
             key[a + k] = key[a + i];
@@ -41,10 +48,8 @@ fn sift(key: &mut [u64; 156], a: usize, b: usize, kept: &[bool]) -> usize
             k += 1;
         }
     }
-    for j in k..n {
-        key[a + j] = 0;
-        key[b + j] = 0;
-    }
+    key[a + k..a + n].fill(0);
+    key[b + k..b + n].fill(0);
     k
 }
 
@@ -55,21 +60,19 @@ pub fn pack_kept(key: &mut [u64; 156], kept: &[bool; 24])
 {
     let depth = covered_layers(key[DEPTH] as usize);
     let rows = reach(&key[LAYER_COUNTS..LAYER_COUNTS + depth], 0);
-    let anchors = reach(&key[ROW_COUNTS..ROW_COUNTS + rows], 0);
-    let mut row_sizes = [0; 24];
-    counts_by(&key[ROW_COUNTS..ROW_COUNTS + rows], kept, &mut row_sizes);
-    // By from_fn: the array's own map takes longer here.
-    let rows_kept = std::array::from_fn(|i| row_sizes[i] != 0);
-    let mut layer_sizes = [0; 4];
-    counts_by(
-        &key[LAYER_COUNTS..LAYER_COUNTS + depth],
-        &rows_kept,
-        &mut layer_sizes,
+    let mut rows_kept = [false; 24];
+    let anchors = count_parts(
+        &mut key[ROW_COUNTS..ROW_COUNTS + rows],
+        kept,
+        &mut rows_kept,
     );
-    let layers_kept: [bool; 4] = std::array::from_fn(|i| layer_sizes[i] != 0);
-    key[LAYER_COUNTS..LAYER_COUNTS + depth].copy_from_slice(&layer_sizes[..depth]);
+    let mut layers_kept = [false; 24];
+    count_parts(
+        &mut key[LAYER_COUNTS..LAYER_COUNTS + depth],
+        &rows_kept,
+        &mut layers_kept,
+    );
     let left = sift(key, LAYER_COUNTS, ZS, &layers_kept[..depth]);
-    key[ROW_COUNTS..ROW_COUNTS + rows].copy_from_slice(&row_sizes[..rows]);
     sift(key, ROW_COUNTS, YS, &rows_kept[..rows]);
     sift(key, ANCHOR_NAMES, XS, &kept[..anchors]);
     key[DEPTH] = left as u64;

@@ -5,17 +5,21 @@ ghost use Rattle.region.specs.Zones.{zones_of, told, question8, flags_of, top_of
 use crate::{RegionHorizontalState, RegionSemanticState, RegionTopBottomState};
 use layout::Refusal;
 
-fn top_of(flag: bool) -> RegionTopBottomState
-    ensures { result ≡ top_of flag }
-{
-    if flag {
-        RegionTopBottomState::Include
-    } else {
-        RegionTopBottomState::Exclude
+// Include where the flag is set.
+impl From<bool> for RegionTopBottomState {
+    ghost from_gives = { λ flag top. top ≡ top_of flag };
+
+    fn from(flag: bool) -> RegionTopBottomState {
+        if flag {
+            RegionTopBottomState::Include
+        } else {
+            RegionTopBottomState::Exclude
+        }
     }
 }
 
 // The state that the flags say, or refusal 8. The flags of a state that was read are those flags.
+// By the Rust's names, as `to_decoded_zones`: TryFrom and From would say no more.
 pub fn from_decoded_zones(flags: [bool; 6]) -> Result<RegionSemanticState, Refusal>
     ensures value { result ≡ zones_of flags }
     ensures result_value { told result ≡ cond (question8 flags) 0 8 }
@@ -32,7 +36,7 @@ pub fn from_decoded_zones(flags: [bool; 6]) -> Result<RegionSemanticState, Refus
     };
     Ok(RegionSemanticState {
         horizontal,
-        top: top_of(flags[5]),
+        top: flags[5].into(),
     })
 }
 

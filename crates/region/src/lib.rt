@@ -39,6 +39,7 @@ impl RegionSemanticState {
     };
 }
 
+// Not derived: `is_default` compares with the const, and `default()` is no const.
 impl Default for RegionSemanticState {
     ghost is_default = { λ s. s ≡ default_state };
 

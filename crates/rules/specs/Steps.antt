@@ -14,9 +14,9 @@ abbrev pub rule_of : Bool → Bool → RegionSemanticState → ℕ → ℕ → F
 rule_of is222 five s depth i z =
     cond (cond is222 (lt zero64 z) (eqb depth 2 && eqb i 1))
     (Upper (is_include s.top))
-    (Lower (is222 && lt z zero64) s.horizontal five)
+    (Lower (is222 && lt z zero64) (record { horizontal = s.horizontal; five = five }))
 
 -- whether the anchor of a name stays by a rule
 abbrev pub stays_by : Rule → ℕ → Bool
 stays_by (Upper include) n = include
-stays_by (Lower whole h five) n = whole || is_kept (bed_of h n five)
+stays_by (Lower whole bed) n = whole || is_kept (bed_of bed.horizontal n bed.five)

@@ -4,5 +4,5 @@
 mod bed;
 mod rule;
 
-pub use bed::{is_classed, is_no_constraints};
+pub use bed::{Bed, is_classed, is_no_constraints};
 pub use rule::{Rule, rule_of, stays_by};

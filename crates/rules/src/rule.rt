@@ -2,27 +2,19 @@
 ghost use Rattle.std.specs.Prelude.{◌≡◌, ◌&&◌, cond, eqb};
 ghost use Rattle.std.specs.Float.Ieee.{lt};
 ghost use Rattle.doubles.specs.Arithmetic.{zero64};
-ghost use Rattle.classes.specs.Classes.{bed_of};
-ghost use Rattle.rules.specs.Rules.{is_kept};
 ghost use Rattle.rules.specs.Steps.{rule_of, stays_by};
 
-use classes::{BedMatch, matches_bed_state};
-use region::{RegionHorizontalState, RegionSemanticState, is_include};
+use crate::Bed;
+use region::{RegionSemanticState, is_include};
 
 // How a layer keeps its anchors: an upper one goes or stays whole, others keep all or go by class.
 #[derive(Clone, Copy)]
 pub enum Rule {
-    Upper {
-        include: bool,
-    },
-    Lower {
-        whole: bool,
-        horizontal: RegionHorizontalState,
-        five: bool,
-    },
+    Upper { include: bool },
+    Lower { whole: bool, bed: Bed },
 }
 
-// Whether layer i of depth, at height z, is upper.
+// Whether layer i of depth, at height z, is upper. Which test it is follows from the room, no caller chooses.
 fn is_upper(is_22_2: bool, depth: usize, i: usize, z: f64) -> bool
     ensures { result ≡ cond is_22_2 (lt zero64 z) (eqb depth 2 && eqb i 1) }
 {
@@ -59,17 +51,12 @@ pub fn rule_of(
     } else {
         Rule::Lower {
             whole: keeps_all(is_22_2, z),
-            horizontal: state.horizontal,
-            five,
+            bed: Bed {
+                horizontal: state.horizontal,
+                five,
+            },
         }
     }
-}
-
-// Whether the speaker of a name is kept.
-fn is_kept(h: RegionHorizontalState, name: u64, five: bool) -> bool
-    ensures { result ≡ is_kept (bed_of h name five) }
-{
-    matches_bed_state(h, name, five) == BedMatch::Kept
 }
 
 // Whether the anchor of a name stays by a rule.
@@ -78,10 +65,6 @@ pub fn stays_by(rule: Rule, name: u64) -> bool
 {
     match rule {
         Rule::Upper { include } => include,
-        Rule::Lower {
-            whole,
-            horizontal,
-            five,
-        } => whole | is_kept(horizontal, name, five),
+        Rule::Lower { whole, bed } => whole | bed.keeps(name),
     }
 }

@@ -1,7 +1,7 @@
 -- What a key is answered and how it is left, by the answers to questions 1 to 6, 9 and 10; and question 9 by the flags.
 use Prim.Native.Nat.{ℕ, zero, suc, ◌≤◌}
 use mathlib.Core.Path.{◌≡◌, refl, sym, ap, ap₂, ◌∙◌}
-use mathlib.Core.Bool.{Bool, true, false, cond, not, ◌&&◌, ◌||◌, true≢false}
+use mathlib.Core.Bool.{Bool, true, false, cond, not, ◌&&◌, ◌||◌, true≢false, or-false}
 use mathlib.Core.List.{List, [], ◌∷◌, ◌++◌, map}
 use native.Mathlib.Omega.{arith}
 use borrow.Author.Tests.{le-leb, ne_eqb}
@@ -131,10 +131,6 @@ none_set (suc n) zero = refl
 none_set zero (suc k) = none_set zero k
 none_set (suc n) (suc k) = none_set n k
 
-or_false : (b : Bool) → (b || false) ≡ b
-or_false true = refl
-or_false false = refl
-
 anchors_left_lem : (p : Anchor → Bool) (xs : List Anchor) → list_any is_set (map p xs) ≡ not (is_empty (filter p xs))
 anchors_left_lem p [] = refl
 anchors_left_lem p (x ∷ xs) = go (p x) (anchors_left_lem p xs)
@@ -168,6 +164,6 @@ nine_by_flags s r e =
     let f = layer_flags (stays s r) 0 r.layers in
     any_append f (drop (length f) (replicate 24 false))
     ∙ ap (λ (b : Bool). list_any is_set f || b) (none_set (length f) 24)
-    ∙ or_false (list_any is_set f)
+    ∙ or-false (list_any is_set f)
     ∙ layers_left (stays s r) 0 r.layers
     ∙ ap (λ (b : Bool). leb 1 (length (cond b r (record { channels = r.channels; layers = filter has_rows (passing_from (stays s r) 0 r.layers) })).layers)) (sym e)

@@ -6,19 +6,17 @@ use mathlib.Core.List.{List, [], ◌∷◌, ◌++◌, map, map-map, append_assoc
 use native.Mathlib.Numerals.{add-one}
 use native.Mathlib.Omega.{arith}
 use lib.Ieee.{eq}
-use lib.ListN.{length, get_or, take, drop, set, replicate, length-set, length-map, length-append, length-take, length-drop, take-append-drop, drop_of_length-le}
-use lib.Seq.{slice, drop-set-lt, drop-cons, drop-drop, take_all, take-append_seam, drop-append-add}
+use lib.ListN.{length, get_or, take, drop, replicate, length-map, length-append, length-take, length-drop, drop_of_length-le}
+use lib.Seq.{slice, drop-cons, drop-drop, take_all, take-append_seam, drop-append-add}
 use Rattle.doubles.specs.Arithmetic.{zero64}
 use Rattle.std.specs.List.{list_all}
-use Rattle.lists.proofs.Loops.{slice_more}
-use Rattle.lists.proofs.Takes.{map_take}
-use Rattle.lists.proofs.Filter.{store}
+use Rattle.lists.proofs.Chunks.{slice_map}
 use Rattle.layout.specs.declared.Anchor.{Anchor}
 use Rattle.layout.specs.declared.Layout.{Layout}
 use Rattle.layout.specs.Room.{room_of}
 use Rattle.layout.specs.Topology.{TopologyLayer, topology_of, rows_of, anchor_name}
 use Rattle.layout.specs.Steps.Starts.{row_starts, layer_starts, no_layer}
-use Rattle.layout.proofs.TopologyLists.{map_drop, all_concat, all_map}
+use Rattle.layout.proofs.TopologyLists.{all_concat}
 use Rattle.layout.proofs.TopologyStarts.{topology_anchors}
 use Rattle.layout.proofs.TopologyFlat.{topology_length, topology_layer}
 use Rattle.layout.proofs.Sizes.{Sized}
@@ -29,57 +27,18 @@ use Rattle.rules.specs.Rules.{is_kept}
 use Rattle.region.specs.declared.RegionHorizontalState.{RegionHorizontalState}
 use Rattle.classes.specs.Classes.{bed_of}
 use Rattle.std.specs.Prelude.{cond}
+use Rattle.std.proofs.lemmas.List.Folds.{list_all-map}
 use Rattle.region.specs.Zones.{is_include, is_no_constraints}
 use Rattle.selection.specs.Selection.{five_x, is222, upper, keeps_all, stays, question10, classed_layer}
 use Rattle.selection.specs.Steps.{flagged_from, has_class, row_flags, layer_flags, kept_flags}
 use Rattle.rules.specs.Steps.{rule_of, stays_by}
-use Rattle.kept_anchors.proofs.Counts.{slice_past}
 use Rattle.selection.proofs.Tested.{rows_flags}
 use Rattle.selection.proofs.LayerAnchors.{layer_start_rises, layer_start_most, layer_start_first, layer_anchors_lem}
 
--- ---- the loop over one layer: `old` becomes its first `at` flags, those of the layer, and what lay behind
-module _ (p : ℕ → Bool) (names : List ℕ) (at end : ℕ) (old : List Bool) where
-  abbrev flagged : List Bool
-  flagged = flagged_from p names at end old
-
-  pub record Flagging (out : List Bool) (a : ℕ) : Type 0 where
-    pub begun : at ≤ a
-    pub reached : a ≤ end
-    pub few : end ≤ length names
-    pub room : end ≤ length out
-    pub whole : take a out ++ (map p (slice a end names) ++ drop end old) ≡ flagged
-    pub behind : drop end out ≡ drop end old
-
-  pub flag_none : length old ≡ 24 → at ≤ end → end ≤ 24 → end ≤ length names → Flagging old at
-  flag_none q h k m = record { begun = omega arith; reached = h; few = m; room = omega arith; whole = refl; behind = refl }
-
-  module _ (out : List Bool) (a : ℕ) (w : Flagging out a) where
-    pub flag_more : (b : Bool) → a < end → b ≡ p (get_or names a 0) → Flagging (set out a b) (a + 1)
-    flag_more b h q =
-        let e : map p (slice a end names) ≡ b ∷ map p (slice (a + 1) end names) =
-        ap (map p) (slice_more a end names 0 h w.few) ∙ ap (λ (x : Bool). x ∷ map p (slice (a + 1) end names)) (sym q) in
-        record {
-          begun = omega (arith, w.begun);
-          reached = omega arith;
-          few = w.few;
-          room = omega (arith, w.room, length-set out a b);
-          whole = store out a b (map p (slice (a + 1) end names) ++ drop end old) flagged (omega (arith, w.room)) (rw e at w.whole);
-          behind = drop-set-lt end out a b h ∙ w.behind;
-        }
-
-    pub flag_done : end ≤ a → out ≡ flagged
-    flag_done h =
-        let e : a ≡ end = omega (arith, w.reached) in
-        sym (take-append-drop end out) ∙ ap (λ (t : List Bool). take end out ++ t) w.behind
-        ∙ rw (slice_past a end names h, e) at w.whole
-
 -- ---- the flags of the first layers
-map_slice : {A B : Type 0} (f : A → B) (a b : ℕ) (xs : List A) → map f (slice a b xs) ≡ slice a b (map f xs)
-map_slice f a b xs = map_drop f a (take b xs) ∙ ap (drop a) (map_take f b xs)
-
 -- what a rule says of each anchor
 stays_each : (up include whole five : Bool) (h : RegionHorizontalState) (xs : List Anchor) →
-    map (λ (a : Anchor). stays_by (cond up (Upper include) (Lower whole h five)) (anchor_name a)) xs
+    map (λ (a : Anchor). stays_by (cond up (Upper include) (Lower whole (record { horizontal = h; five = five }))) (anchor_name a)) xs
     ≡ map (λ (a : Anchor). cond up include (whole || is_kept (bed_of h a.name five))) xs
 stays_each true include whole five h xs = refl
 stays_each false include whole five h xs = refl
@@ -137,7 +96,7 @@ module _ (l : Layout) (z : Sized l) (few : l.depth ≤ 4) where
           let rise = layer_start_rises l z i (omega arith) in
           let most = layer_start_most l z (suc i) (omega arith) in
           let m : map (stays_by (rule_of (is222 (room_of l)) (five_x (room_of l)) s (length (topology_of l)) i (get_or l.layers i no_layer).z)) (slice a b (map anchor_name l.anchors)) ≡ map p (slice a b l.anchors) =
-          ap (map (stays_by (rule_of (is222 (room_of l)) (five_x (room_of l)) s (length (topology_of l)) i (get_or l.layers i no_layer).z))) (sym (map_slice anchor_name a b l.anchors)) ∙ map-map _ anchor_name (slice a b l.anchors)
+          ap (map (stays_by (rule_of (is222 (room_of l)) (five_x (room_of l)) s (length (topology_of l)) i (get_or l.layers i no_layer).z))) (slice_map anchor_name a b l.anchors) ∙ map-map _ anchor_name (slice a b l.anchors)
           ∙ stays_each (upper (room_of l) i (layer_at i)) (is_include s.top) (keeps_all (room_of l) (layer_at i)) (five_x (room_of l)) s.horizontal (slice a b l.anchors) in
           let n : length (map p (slice a b l.anchors)) ≡ b - a =
           length-map (slice a b l.anchors) p ∙ length-drop a (take b l.anchors) ∙ ap (λ (k : ℕ). k - a) (length-take b l.anchors) ∙ omega (arith, z.anchors) in
@@ -165,11 +124,11 @@ module _ (l : Layout) (z : Sized l) (few : l.depth ≤ 4) where
     layer_test five i h =
         let p : Anchor → Bool = λ a. has_class s.horizontal five (anchor_name a) in
         ap (λ (b : Bool). not (eq (layer_at i).z zero64) || b)
-        (all_map topology_anchors (list_all p) (layer_at i).rows
+        (sym (list_all-map (list_all p) topology_anchors (layer_at i).rows)
         ∙ all_concat p (map topology_anchors (layer_at i).rows)
         ∙ ap (list_all p) (layer_anchors_lem l z i (omega arith))
-        ∙ all_map anchor_name (has_class s.horizontal five) (slice (get_or (layer_starts l) i 0) (get_or (layer_starts l) (suc i) 0) l.anchors)
-        ∙ ap (list_all (has_class s.horizontal five)) (map_slice anchor_name (get_or (layer_starts l) i 0) (get_or (layer_starts l) (suc i) 0) l.anchors))
+        ∙ sym (list_all-map (has_class s.horizontal five) anchor_name (slice (get_or (layer_starts l) i 0) (get_or (layer_starts l) (suc i) 0) l.anchors))
+        ∙ ap (list_all (has_class s.horizontal five)) (sym (slice_map anchor_name (get_or (layer_starts l) i 0) (get_or (layer_starts l) (suc i) 0) l.anchors)))
 
     -- whether the layers that are left pass
     abbrev pub classed_from : Bool → ℕ → Bool

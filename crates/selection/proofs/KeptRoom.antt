@@ -12,6 +12,7 @@ use lib.ListN.{length, take, drop, length-map}
 use lib.Seq.{drop-drop, take-append_seam, drop-append_seam}
 use Rattle.lists.specs.Lists.{bit, flatten}
 use Rattle.std.specs.List.{filter}
+use Rattle.std.proofs.lemmas.List.Elements.{filter-append}
 use Rattle.layout.specs.declared.Anchor.{Anchor}
 use Rattle.layout.specs.Topology.{TopologyRow, TopologyLayer}
 use Rattle.layout.proofs.TopologyStarts.{topology_anchors, topology_rows}
@@ -34,14 +35,6 @@ picked_append [] (x ∷ xs) ys = refl
 picked_append (b ∷ bs) [] ys = refl
 picked_append {A = A} (true ∷ bs) (x ∷ xs) ys = ap (λ (l : List A). x ∷ l) (picked_append bs xs ys)
 picked_append (false ∷ bs) (x ∷ xs) ys = picked_append bs xs ys
-
-filter_append : {A : Type 0} (p : A → Bool) (xs ys : List A) → filter p (xs ++ ys) ≡ filter p xs ++ filter p ys
-filter_append p [] ys = refl
-filter_append {A = A} p (x ∷ xs) ys = go (p x) (filter_append p xs ys)
-  where
-    go : (b : Bool) → filter p (xs ++ ys) ≡ filter p xs ++ filter p ys → cond b (x ∷ filter p (xs ++ ys)) (filter p (xs ++ ys)) ≡ cond b (x ∷ filter p xs) (filter p xs) ++ filter p ys
-    go true e = ap (λ (l : List A). x ∷ l) e
-    go false e = e
 
 picked_count : {A : Type 0} (bs : List Bool) (xs : List A) → length (picked bs xs) ≡ count_set (take (length xs) bs)
 picked_count [] [] = refl
@@ -118,7 +111,7 @@ layers_rows : (ys : List TopologyLayer) → layer_rows (map without_empty_rows y
 layers_rows [] = refl
 layers_rows (y ∷ ys) =
     ap (λ (t : List TopologyRow). filter has_anchors y.rows ++ t) (layers_rows ys)
-    ∙ sym (filter_append has_anchors y.rows (layer_rows ys))
+    ∙ sym (filter-append has_anchors y.rows (layer_rows ys))
 
 layers_filled : (ys : List TopologyLayer) → layer_rows (filter has_rows ys) ≡ layer_rows ys
 layers_filled [] = refl

@@ -1,15 +1,14 @@
 -- What the numbers of a key say of the accepted layout in it.
-use Prim.Native.Nat.{ℕ, zero, suc, ◌+◌, ◌<◌, ◌≤◌}
-use mathlib.Core.Path.{◌≡◌, refl, sym, ap, ◌∙◌, subst}
+use Prim.Native.Nat.{ℕ, ◌+◌, ◌<◌, ◌≤◌}
+use mathlib.Core.Path.{◌≡◌, sym, ap, ◌∙◌, subst}
 use mathlib.Core.Bool.{not}
-use mathlib.Core.List.{List, [], ◌∷◌, map}
+use mathlib.Core.List.{List, map}
 use native.Mathlib.Omega.{arith}
 use lib.Ieee.{Float, nan}
 use lib.ListN.{length, get_or, take, drop, get_or-map}
 use lib.Seq.{slice, get_or-take, get_or-drop, take-take, length-slice}
 use Rattle.std.specs.List.{list_any}
-use Rattle.lists.proofs.Chunks.{slice_take}
-use Rattle.lists.proofs.Takes.{map_take}
+use Rattle.std.proofs.lemmas.List.{drop-take, take-map, get_or-map as get_or-map_in}
 use Rattle.layout.specs.declared.Layout.{Layout}
 use Rattle.layout.specs.Steps.Accepted.{Accepted}
 use Rattle.layout.specs.Channels.{channels_of, channel_name}
@@ -24,15 +23,10 @@ use Rattle.classes.specs.Classes.{outside_five, is_flc}
 use Rattle.selection.specs.Selection.{five_x, is222}
 
 pub mapped : {A B : Type 0} (f : A → B) (m : ℕ) (xs : List A) → map f (take m xs) ≡ take (length (take m xs)) (map f xs)
-mapped f m xs = ap (map f) (sym (take_taken m xs)) ∙ map_take f (length (take m xs)) xs
+mapped f m xs = ap (map f) (sym (take_taken m xs)) ∙ sym (take-map f (length (take m xs)) xs)
 
 pub at_part : (key : List ℕ) (a n i : ℕ) → i < n → get_or (slice a (a + n) key) i 0 ≡ get_or key (a + i) 0
-at_part key a n i h = ap (λ (l : List ℕ). get_or l i 0) (slice_take a n key) ∙ get_or-take n (drop a key) i 0 h ∙ get_or-drop a key i 0
-
-get_or_map_in : {B : Type 0} (f : ℕ → B) (xs : List ℕ) (i d : ℕ) (b : B) → i < length xs → get_or (map f xs) i b ≡ f (get_or xs i d)
-get_or_map_in f [] i d b h = absurd (omega arith)
-get_or_map_in f (x ∷ xs) zero d b h = refl
-get_or_map_in f (x ∷ xs) (suc i) d b h = get_or_map_in f xs i d b (omega arith)
+at_part key a n i h = ap (λ (l : List ℕ). get_or l i 0) (drop-take a n key) ∙ get_or-take n (drop a key) i 0 h ∙ get_or-drop a key i 0
 
 -- ---- what the code is given
 pub record Given (l : Layout) (key : List ℕ) (used depth : ℕ) : Type 0 where
@@ -53,7 +47,7 @@ module _ {l : Layout} {key : List ℕ} {used depth : ℕ} (g : Given l key used 
   key_names : take used key ≡ map channel_name (channels_of l)
   key_names =
       sym
-      (map_take channel_name l.used l.channels
+      (sym (take-map channel_name l.used l.channels)
       ∙ ap (take l.used) (ap (λ (x : Layout). map channel_name x.channels) g.is ∙ names_are key g.long)
       ∙ take-take l.used 24 key g.accepted.few_channels
       ∙ ap (λ (n : ℕ). take n key) (sym g.channels))
@@ -69,11 +63,11 @@ module _ {l : Layout} {key : List ℕ} {used depth : ℕ} (g : Given l key used 
   key_z i h =
       let j : i < length (slice 100 104 key) = omega (arith, h, few, length-slice 100 104 key (omega (arith, g.long))) in
       ap double (sym (at_part key 100 4 i (omega (arith, few))))
-      ∙ sym (get_or_map_in double (slice 100 104 key) i 0 nan j)
+      ∙ sym (get_or-map_in double (slice 100 104 key) i 0 nan j)
       ∙ ap (λ (v : List Float). get_or v i nan) (sym (ap (λ (x : Layout). map layer_z x.layers) g.is ∙ zs_are key g.long))
       ∙ get_or-map layer_z l.layers i no_layer
 
   pub key_anchors : (a b : ℕ) → b ≤ length (used_anchors l) → slice a b (drop 76 key) ≡ slice a b (map anchor_name l.anchors)
   key_anchors a b h =
       let n : length (used_anchors l) ≤ 24 = g.accepted.most_anchors in
-      ap (drop a) (sym (take-take b 24 (drop 76 key) (omega arith)) ∙ ap (take b) (sym (slice_take 76 24 key) ∙ sym (ap (λ (x : Layout). map anchor_name x.anchors) g.is ∙ anchor_names_are key g.long)))
+      ap (drop a) (sym (take-take b 24 (drop 76 key) (omega arith)) ∙ ap (take b) (sym (drop-take 76 24 key) ∙ sym (ap (λ (x : Layout). map anchor_name x.anchors) g.is ∙ anchor_names_are key g.long)))

@@ -1,5 +1,5 @@
 -- The layers of an accepted layout, one after another in its key: their anchors, flags and classes.
-use Prim.Native.Nat.{ℕ, suc, ◌+◌, ◌<◌, ◌≤◌}
+use Prim.Native.Nat.{ℕ, suc, ◌+◌, ◌-◌, ◌<◌, ◌≤◌}
 use mathlib.Core.Path.{◌≡◌, refl, sym, ap, ap₂, ◌∙◌}
 use mathlib.Core.Bool.{Bool, not, true, false, ◌&&◌, ◌||◌}
 use mathlib.Core.List.{List, ◌++◌, map}
@@ -7,7 +7,8 @@ use native.Mathlib.Numerals.{add-one}
 use native.Mathlib.Omega.{arith}
 use lib.Ieee.{Float, eq}
 use lib.ListN.{length, get_or, take, drop, replicate}
-use lib.Seq.{slice}
+use lib.Seq.{slice, drop-drop}
+use borrow.Rule.Slice.PartMut.{put_mid}
 use Rattle.std.specs.Prelude.{slice_range}
 use Rattle.doubles.specs.Arithmetic.{zero64}
 use Rattle.lists.specs.Lists.{total}
@@ -107,14 +108,20 @@ module _ (key : List ℕ) (s : RegionSemanticState) where
   pub flags_none : FlagsTo (replicate 24 false) 0
   flags_none l g = layered_none l (sized g) (few g) s
 
+  -- the flags of a layer are written between those before and those behind
+  written : (p : ℕ → Bool) (kept flags : List Bool) (a b : ℕ) → a ≤ b → flags ≡ map p (slice_range key (76 + a) (76 + b)) → put_mid a (b - a) kept flags ≡ flagged_from p (drop 76 key) a b kept
+  written p kept flags a b h e =
+      let f : a + (b - a) ≡ b = omega arith in
+      ap₂ (λ (xs : List Bool) (ys : List Bool). take a kept ++ (xs ++ ys)) (e ∙ ap (map p) (part_within key 76 a b h)) (drop-drop (b - a) a kept ∙ ap (λ (n : ℕ). drop n kept) f)
+
   -- one layer more, whose anchors begin and end where the starts say
-  pub flags_more : (starts : List ℕ) → starts ≡ layer_starts (layout_in key) → (kept r : List Bool) (i : ℕ) (rule : Rule) (flc five : Bool) (z : Float) → i < get_or key 153 0 → FlagsTo kept i →
-      r ≡ flagged_from (stays_by rule) (drop 76 key) (get_or starts i 0) (get_or starts (i + 1) 0) kept →
-      rule ≡ rule_of flc five s (get_or key 153 0) i z → z ≡ double (get_or key (100 + i) 0) → flc ≡ list_any is_flc (take (get_or key 152 0) key) → five ≡ not (list_any outside_five (take (get_or key 152 0) key)) → FlagsTo r (i + 1)
-  flags_more starts e kept r i rule flc five z h f er eu ez ew ef l g =
+  pub flags_more : (starts : List ℕ) → starts ≡ layer_starts (layout_in key) → (kept flags : List Bool) (i : ℕ) (rule : Rule) (flc five : Bool) (z : Float) → i < get_or key 153 0 → FlagsTo kept i →
+      get_or starts i 0 ≤ get_or starts (i + 1) 0 → flags ≡ map (stays_by rule) (slice_range key (76 + get_or starts i 0) (76 + get_or starts (i + 1) 0)) →
+      rule ≡ rule_of flc five s (get_or key 153 0) i z → z ≡ double (get_or key (100 + i) 0) → flc ≡ list_any is_flc (take (get_or key 152 0) key) → five ≡ not (list_any outside_five (take (get_or key 152 0) key)) → FlagsTo (put_mid (get_or starts i 0) (get_or starts (i + 1) 0 - get_or starts i 0) kept flags) (i + 1)
+  flags_more starts e kept flags i rule flc five z h f rise er eu ez ew ef l g =
       let q : starts ≡ layer_starts l = e ∙ ap layer_starts (sym g.is) in
-      flags_next g i h s kept r rule flc five (f l g)
-      (er ∙ ap (λ (v : List ℕ). flagged_from (stays_by rule) (drop 76 key) (get_or v i 0) (get_or v (i + 1) 0) kept) q)
+      flags_next g i h s kept _ rule flc five (f l g)
+      (written (stays_by rule) kept flags (get_or starts i 0) (get_or starts (i + 1) 0) rise er ∙ ap (λ (v : List ℕ). flagged_from (stays_by rule) (drop 76 key) (get_or v i 0) (get_or v (i + 1) 0) kept) q)
       (eu ∙ ap (rule_of flc five s (get_or key 153 0) i) ez)
       ew ef
 

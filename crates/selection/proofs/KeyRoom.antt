@@ -2,7 +2,7 @@
 use Prim.Native.Nat.{ℕ, zero, suc, ◌+◌, ◌≤◌, ◌<◌}
 use mathlib.Core.Path.{◌≡◌, refl, sym, ap, ap₂, ◌∙◌, subst}
 use mathlib.Core.Bool.{not}
-use mathlib.Core.List.{List, [], ◌∷◌, map}
+use mathlib.Core.List.{List, [], ◌∷◌, map, map-map}
 use native.Mathlib.Omega.{arith}
 use lib.Dec.{T}
 use lib.Ieee.{Float, nan, inf, fin, binary64, lt, to_bits, is_nan}
@@ -15,9 +15,8 @@ use Rattle.doubles.specs.Arithmetic.{one64, minus_one64}
 use Rattle.doubles.specs.Range.{is_between}
 use Rattle.lists.specs.Lists.{chain, total}
 use Rattle.std.specs.List.{list_all}
-use Rattle.lists.proofs.Chunks.{slice_take, slice_front}
-use Rattle.lists.proofs.Takes.{map_take}
-use Rattle.lists.proofs.Zips.{map-map}
+use Rattle.std.proofs.lemmas.List.{drop-take, take-map}
+use Rattle.lists.proofs.Chunks.{slice_front}
 use Rattle.layout.specs.declared.Layout.{Layout}
 use Rattle.layout.specs.Steps.Accepted.{Accepted}
 use Rattle.layout.specs.Room.{rows_in, anchors_in}
@@ -62,13 +61,13 @@ below (suc n) (suc i) (x ∷ l) w = below n i l (λ j. w (suc j))
 module _ (key : List ℕ) (long : length key ≡ 156) (w : Words key) where
   part_words : (a n : ℕ) → Words (slice a (a + n) key)
   part_words a n i =
-      subst (λ (l : List ℕ). get_or l i 0 < 18446744073709551616) (sym (slice_take a n key))
+      subst (λ (l : List ℕ). get_or l i 0 < 18446744073709551616) (sym (drop-take a n key))
       (below n i (drop a key) (λ j. subst (λ (m : ℕ). m < 18446744073709551616) (sym (get_or-drop a key j 0)) (w (a + j))))
 
   -- the bits of the first m of a part's doubles
   bits : (a m most : ℕ) (fs gs : List Float) → m ≤ most → gs ≡ map double (slice a (a + most) key) → fs ≡ take m gs → T (list_all in_room fs) → map (to_bits binary64) fs ≡ slice a (a + m) key
   bits a m most fs gs h p q r =
-      let e : fs ≡ map double (slice a (a + m) key) = q ∙ ap (take m) p ∙ sym (map_take double m (slice a (a + most) key)) ∙ ap (map double) (slice_front key a m most h) in
+      let e : fs ≡ map double (slice a (a + m) key) = q ∙ ap (take m) p ∙ take-map double m (slice a (a + most) key) ∙ ap (map double) (slice_front key a m most h) in
       ap (map (to_bits binary64)) e ∙ exact (slice a (a + m) key) (part_words a m) (subst (λ (l : List Float). T (list_all in_room l)) e r)
 
   module _ (ac : Accepted (layout_in key)) where
@@ -97,7 +96,7 @@ module _ (key : List ℕ) (long : length key ≡ 156) (w : Words key) where
     -- the counts and the names
     counted : {A : Type 0} (f : A → ℕ) (xs : List A) (ns : List ℕ) (a m n most : ℕ) → n ≡ m → n ≤ most → map f xs ≡ slice a (a + most) key → ns ≡ map f (take m xs) → slice a (a + n) key ≡ ns
     counted f xs ns a m n most e h p q =
-        sym (q ∙ map_take f m xs ∙ ap₂ take (sym e) p ∙ slice_front key a n most h)
+        sym (q ∙ sym (take-map f m xs) ∙ ap₂ take (sym e) p ∙ slice_front key a n most h)
 
     pub layers_in_lem : slice 48 (48 + length (room_in key).layers) key ≡ map rows_of_layer (room_in key).layers
     layers_in_lem = counted layer_count l.layers _ 48 l.depth _ 4 (depth_is l s ac) layers_few (layer_counts_are key long) (layer_counts_lem l s ac)
@@ -119,21 +118,21 @@ module _ (key : List ℕ) (long : length key ≡ 156) (w : Words key) where
     pub zs_in : slice 100 (100 + length (room_in key).layers) key ≡ map z_bits (room_in key).layers
     zs_in =
         sym
-        (map-map topology_z (to_bits binary64) (topology_of l)
+        (sym (map-map (to_bits binary64) topology_z (topology_of l))
         ∙ bits 100 (length (topology_of l)) 4 (map topology_z (topology_of l)) (map layer_z l.layers) layers_few (zs_are key long) (topology_z_lem l ∙ ap (λ (n : ℕ). take n (map layer_z l.layers)) (sym (depth_is l s ac))) (and_yes (list_all in_room (map topology_z (topology_of l))) (chain lt (map topology_z (topology_of l))) ac.z_ordered).0)
 
     pub ys_in_key : slice 104 (104 + length (rows_in (room_in key))) key ≡ map y_bits (rows_in (room_in key))
     ys_in_key =
         sym
-        (map-map topology_y (to_bits binary64) (rows_in (room_in key))
+        (sym (map-map (to_bits binary64) topology_y (rows_in (room_in key)))
         ∙ bits 104 (length (rows_in (room_in key))) 24 (map topology_y (rows_in (room_in key))) (map row_y l.rows) rows_few (ys_are key long)
-        (ys_of ∙ map_take row_y (total (map layer_count (used_layers l))) l.rows ∙ ap (λ (n : ℕ). take n (map row_y l.rows)) (sym rows_number))
+        (ys_of ∙ sym (take-map row_y (total (map layer_count (used_layers l))) l.rows) ∙ ap (λ (n : ℕ). take n (map row_y l.rows)) (sym rows_number))
         (subst (λ (v : List Float). T (list_all in_room v)) (sym ys_of) (ys_in_room l yes5)))
 
     pub xs_in_key : slice 128 (128 + length (anchors_in (room_in key))) key ≡ map x_bits (anchors_in (room_in key))
     xs_in_key =
         sym
-        (map-map anchor_x (to_bits binary64) (anchors_in (room_in key))
+        (sym (map-map (to_bits binary64) anchor_x (anchors_in (room_in key)))
         ∙ bits 128 (length (anchors_in (room_in key))) 24 (map anchor_x (anchors_in (room_in key))) (map anchor_x l.anchors) anchors_few (xs_are key long)
-        (ap (map anchor_x) (anchors_are l) ∙ map_take anchor_x (total (map row_count (used_rows l))) l.anchors ∙ ap (λ (n : ℕ). take n (map anchor_x l.anchors)) (sym anchors_number))
+        (ap (map anchor_x) (anchors_are l) ∙ sym (take-map anchor_x (total (map row_count (used_rows l))) l.anchors) ∙ ap (λ (n : ℕ). take n (map anchor_x l.anchors)) (sym anchors_number))
         (subst (λ (v : List Float). T (list_all in_room v)) (sym (ap (map anchor_x) (anchors_are l))) (xs_in_room l yes5)))

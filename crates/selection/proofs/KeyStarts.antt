@@ -7,8 +7,8 @@ use native.Mathlib.Omega.{arith}
 use lib.ListN.{length, get_or, take, drop, set, length-map}
 use lib.Seq.{slice, drop-drop, take-take, get_or-take}
 use Rattle.std.specs.Prelude.{slice_range}
+use Rattle.std.proofs.lemmas.List.{drop-take}
 use Rattle.lists.specs.Lists.{total}
-use Rattle.lists.proofs.Chunks.{slice_take}
 use Rattle.lists.proofs.Fill.{Filled, fill_none, fill_more, fill_done}
 use Rattle.layout.specs.declared.Layout.{Layout}
 use Rattle.layout.specs.Topology.{layer_count, row_count}
@@ -27,7 +27,7 @@ part_within l base a b h =
     let f : a + (b - a) ≡ b = omega arith in
     ap (λ (n : ℕ). take n (drop (base + a) l)) e
     ∙ ap (take (b - a)) (sym (drop-drop a base l))
-    ∙ sym (slice_take a (b - a) (drop base l))
+    ∙ sym (drop-take a (b - a) (drop base l))
     ∙ ap (λ (n : ℕ). slice a n (drop base l)) f
 
 -- ---- sums of counts
@@ -71,14 +71,11 @@ module _ (key : List ℕ) (long : length key ≡ 156) where
         let c = sym (at_part key 48 4 i h) ∙ ap (λ (v : List ℕ). get_or v i 0) (sym (layer_counts_are key long)) in
         omega (arith, p, w.rows, c, row_start_lem l z i (omega arith), row_start_lem l z (suc i) (omega arith), total_next i (map layer_count l.layers))
 
-    pub row_rises : row ≤ next
-    row_rises = omega (arith, next_is, w.rows, row_start_rises l z i h)
-
-    pub row_most : next ≤ 24
-    row_most = omega (arith, next_is, row_start_most l z (suc i) (omega arith))
+    pub row_bounds : (row ≤ next) × (next ≤ 24)
+    row_bounds = omega (arith, next_is, w.rows, row_start_rises l z i h, row_start_most l z (suc i) (omega arith))
 
     rows_of_key : slice row next (drop 52 key) ≡ slice row next (map row_count l.rows)
-    rows_of_key = ap (drop row) (sym (take-take next 24 (drop 52 key) row_most) ∙ ap (take next) (sym (slice_take 52 24 key) ∙ sym (row_counts_are key long)))
+    rows_of_key = ap (drop row) (sym (take-take next 24 (drop 52 key) row_bounds.1) ∙ ap (take next) (sym (drop-take 52 24 key) ∙ sym (row_counts_are key long)))
 
     at_is : get_or starts i 0 ≡ get_or (layer_starts l) i 0
     at_is = sym (get_or-take (i + 1) starts i 0 (omega arith)) ∙ ap (λ (v : List ℕ). get_or v i 0) w.filled.same ∙ get_or-take (i + 1) (layer_starts l) i 0 (omega arith)
@@ -86,9 +83,9 @@ module _ (key : List ℕ) (long : length key ≡ 156) where
     pub walk_more : end ≡ min (get_or starts i 0 + total (slice_range key (52 + row) (52 + next))) 24 → Walked key (set starts (i + 1) end) next (i + 1)
     walk_more q =
         let ns = map row_count l.rows in
-        let t = ap total (part_within key 52 row next row_rises ∙ rows_of_key) in
+        let t = ap total (part_within key 52 row next row_bounds.0 ∙ rows_of_key) in
         let a : ℕ = get_or (row_starts l) i 0 in
-        let s = total_split row next ns row_rises in
+        let s = total_split row next ns row_bounds.0 in
         let u = ap (λ (n : ℕ). total (take n ns)) w.rows in
         let v = ap (λ (n : ℕ). total (take n ns)) next_is in
         let e : end ≡ get_or (layer_starts l) (suc i) 0 = omega (arith, q, t, s, u, v, at_is, layer_start l z i (omega arith), layer_start l z (suc i) (omega arith)) in

@@ -5,15 +5,15 @@ use mathlib.Core.List.{List, [], ◌∷◌, map}
 use native.Mathlib.Omega.{arith}
 use lib.ListN.{length, get_or, take, drop, length-map, length-take, get_or-map}
 use lib.Seq.{slice, drop-drop, take-take}
+use Rattle.std.proofs.lemmas.List.{drop-take, take-map, drop-map}
 use Rattle.lists.specs.Lists.{total, chunks, flatten}
-use Rattle.lists.proofs.Chunks.{slice_take}
-use Rattle.lists.proofs.Takes.{take_min, map_take}
+use Rattle.lists.proofs.Takes.{take_min}
 use Rattle.layout.specs.declared.Anchor.{Anchor}
 use Rattle.layout.specs.declared.Row.{Row}
 use Rattle.layout.specs.declared.Layout.{Layout}
 use Rattle.layout.specs.Topology.{rows_of, row_count, layer_count}
 use Rattle.layout.specs.Steps.Starts.{starts_from, row_starts, anchor_starts, layer_starts}
-use Rattle.layout.proofs.TopologyLists.{drop_cap, concat_chunks, map_drop, total_within}
+use Rattle.layout.proofs.TopologyLists.{drop_cap, concat_chunks, total_within}
 use Rattle.layout.proofs.TopologyStarts.{topology_anchors, rows_anchors, starts_first}
 use Rattle.layout.proofs.Sizes.{Sized}
 
@@ -36,7 +36,7 @@ module _ {A : Type 0} where
   concat_later (suc a) [] xs = refl
   concat_later (suc a) (n ∷ ns) xs =
       concat_later a ns (drop n xs)
-      ∙ ap (drop (total (take a ns))) (sym (slice_take n (total ns) xs))
+      ∙ ap (drop (total (take a ns))) (sym (drop-take n (total ns) xs))
       ∙ drop-drop (total (take a ns)) n (take (n + total ns) xs)
 
   slice_cap : (a b : ℕ) (xs : List A) → length xs ≡ 24 → slice a b xs ≡ slice (min a 24) (min b 24) xs
@@ -49,8 +49,8 @@ rows_part : (a b : ℕ) (rs : List Row) (xs : List Anchor) → a ≤ b → flatt
 rows_part a b rs xs h =
     let ns = map row_count rs in
     ap flatten
-    (map_drop topology_anchors a (take b (rows_of rs xs))
-    ∙ ap (drop a) (map_take topology_anchors b (rows_of rs xs) ∙ ap (take b) (rows_anchors rs xs) ∙ chunks_first b ns xs))
+    (sym (drop-map topology_anchors a (take b (rows_of rs xs)))
+    ∙ ap (drop a) (sym (take-map topology_anchors b (rows_of rs xs)) ∙ ap (take b) (rows_anchors rs xs) ∙ chunks_first b ns xs))
     ∙ concat_later a (take b ns) xs
     ∙ ap (λ (t : List ℕ). slice (total t) (total (take b ns)) xs) (take-take a b ns h)
 

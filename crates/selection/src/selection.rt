@@ -8,7 +8,7 @@ ghost use Rattle.selection.specs.Steps.{is_set, selection_questions, selected_ke
 
 use crate::flags::{bed_classed, kept_flags};
 use kept_anchors::pack_kept;
-use layout::Refusal;
+use layout::{Refusal, ask};
 use questions::first_no;
 use region::{RegionSemanticState, is_default};
 
@@ -30,12 +30,8 @@ fn select(key: &mut [u64; 156], state: RegionSemanticState) -> Result<(), Refusa
         return Ok(());
     }
     let flags = kept_flags(key, state);
-    if !any_set(&flags) {
-        return Err(Refusal::Selection);
-    }
-    if !bed_classed(key, state) {
-        return Err(Refusal::Classes);
-    }
+    ask(any_set(&flags), Refusal::Selection)?;
+    ask(bed_classed(key, state), Refusal::Classes)?;
     pack_kept(key, &flags);
     Ok(())
 }

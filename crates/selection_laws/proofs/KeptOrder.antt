@@ -8,19 +8,19 @@ use lib.ListN.{length, drop}
 use mir.Facts.{and_yes, yes_and}
 use Rattle.lists.specs.Lists.{chain}
 use Rattle.std.specs.List.{list_all, filter}
+use Rattle.std.proofs.lemmas.Float.{lt_trans}
 use Rattle.layout.specs.Topology.{TopologyRow, TopologyLayer, anchor_x}
 use Rattle.layout.specs.Questions.{in_room, ordered, ordered_row, ordered_layer, topology_y, topology_z}
 use Rattle.selection.specs.Selection.{has_anchors, has_rows}
 use Rattle.kept_anchors.specs.Steps.Kept.{picked}
 use Rattle.selection.specs.Steps.{picked_rows, anchor_number, picked_layers, without_empty_rows, kept_topology}
-use Rattle.layout.proofs.LessThan.{less_trans}
 use Rattle.kept_anchors.proofs.Picked.{filter_picked, map_picked}
 use Rattle.selection_laws.proofs.Sublists.{all_picked, chain_picked}
 
 ordered_picked : (bs : List Bool) (xs : List Float) → T (ordered xs) → T (ordered (picked bs xs))
 ordered_picked bs xs h =
     let e = and_yes (list_all in_room xs) (chain lt xs) h in
-    yes_and (list_all in_room (picked bs xs)) (chain lt (picked bs xs)) (all_picked in_room bs xs e.0) (chain_picked lt less_trans bs xs e.1)
+    yes_and (list_all in_room (picked bs xs)) (chain lt (picked bs xs)) (all_picked in_room bs xs e.0) (chain_picked lt lt_trans bs xs e.1)
 
 -- the coordinates of those that pass a test
 ordered_filter : {A : Type 0} (p : A → Bool) (f : A → Float) (xs : List A) → T (ordered (map f xs)) → T (ordered (map f (filter p xs)))

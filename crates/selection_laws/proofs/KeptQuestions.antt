@@ -8,10 +8,12 @@ use borrow.Author.Tests.{eqb-false, not-true}
 use lib.Dec.{T, eqb, leb, leb→le, le→leb}
 use lib.Ieee.{Float, binary64, fits}
 use lib.ListN.{length, take, drop, length-map}
+use lib.Ieee.Bits.{is_true}
 use mir.Facts.{and_yes, yes_and}
-use Rattle.lists.specs.Lists.{elem, all_distinct, total, bit}
+use Rattle.lists.specs.Lists.{elem, all_distinct, total}
 use Rattle.std.specs.List.{list_all, list_any, filter}
-use Rattle.lists.proofs.Takes.{map_take}
+use Rattle.std.proofs.lemmas.List.{take-map}
+use Rattle.std.proofs.lemmas.Float.{T_from_true}
 use Rattle.layout.specs.declared.Channel.{Channel}
 use Rattle.layout.specs.declared.Layout.{Layout}
 use Rattle.layout.specs.Steps.Accepted.{Accepted}
@@ -27,6 +29,7 @@ use Rattle.layout.proofs.Sizes.{Sized}
 use Rattle.layout.proofs.TopologyFlat.{topology_z_lem, topology_rows_lem}
 use Rattle.layout.proofs.TopologyStarts.{rows_y}
 use Rattle.keys.specs.Keys.{rows_of_layer, anchors_of_row}
+use Rattle.keys.proofs.KeyEntries.{bit_most}
 use Rattle.layout.proofs.RoomLists.{anchors_are, layer_counts_lem, row_counts_lem, used_is, depth_is}
 use Rattle.kept_anchors.specs.Steps.Kept.{picked, count_set, is_positive, counts_of}
 use Rattle.selection.specs.Steps.{kept_room}
@@ -38,13 +41,6 @@ use Rattle.selection.proofs.KeptKey.{concat_long}
 use Rattle.selection_laws.proofs.KeptOrder.{kept_ordered, kept_layers}
 use Rattle.selection_laws.proofs.KeyOver.{Within}
 use Rattle.selection_laws.proofs.FlatRoom.{flat_room, flat_topology, flat_channels, flat_layer_counts, flat_row_counts, flat_anchors}
-
-yes : (b : Bool) → T b → b ≡ true
-yes true h = refl
-yes false h = absurd h
-
-holds : (b : Bool) → b ≡ true → T b
-holds b e = subst T (sym e) tt
 
 -- ---- counts that are not zero
 positive_most : (n : ℕ) → is_positive n ≡ true → 1 ≤ n
@@ -58,10 +54,6 @@ positive_all (c ∷ cs) = go (is_positive c) refl (positive_all cs)
     go : (b : Bool) → is_positive c ≡ b → T (list_all (leb 1) (filter is_positive cs)) → T (list_all (leb 1) (cond b (c ∷ filter is_positive cs) (filter is_positive cs)))
     go true e h = yes_and (leb 1 c) (list_all (leb 1) (filter is_positive cs)) (le→leb 1 c (positive_most c e)) h
     go false e h = h
-
-bit_most : (b : Bool) → bit b ≤ 1
-bit_most true = omega arith
-bit_most false = omega arith
 
 count_take : (c : ℕ) (bs : List Bool) → count_set (take c bs) ≤ c
 count_take zero bs = omega arith
@@ -123,12 +115,12 @@ module _ (l : Layout) (s : Sized l) (a : Accepted l) (bs : List Bool) where
 
     lent_ys : Fit (map topology_y (rows_in (room_of l)))
     lent_ys =
-        subst Fit (sym (ap (map topology_y) (topology_rows_lem l) ∙ rows_y (used_rows l) l.anchors ∙ map_take row_y (total (map layer_count (used_layers l))) l.rows))
+        subst Fit (sym (ap (map topology_y) (topology_rows_lem l) ∙ rows_y (used_rows l) l.anchors ∙ sym (take-map row_y (total (map layer_count (used_layers l))) l.rows)))
         (all_taken (fits binary64) (total (map layer_count (used_layers l))) (map row_y l.rows) us)
 
     lent_xs : Fit (map anchor_x (anchors_in (room_of l)))
     lent_xs =
-        subst Fit (sym (ap (map anchor_x) (anchors_are l) ∙ map_take anchor_x (total (map row_count (used_rows l))) l.anchors))
+        subst Fit (sym (ap (map anchor_x) (anchors_are l) ∙ sym (take-map anchor_x (total (map row_count (used_rows l))) l.anchors)))
         (all_taken (fits binary64) (total (map row_count (used_rows l))) (map anchor_x l.anchors) xs)
 
     pub kept_zs_fit : Fit (map topology_z q.layers)
@@ -152,7 +144,7 @@ module _ (l : Layout) (s : Sized l) (a : Accepted l) (bs : List Bool) where
     yes_2 =
         let n = length q.layers in
         let few : n ≤ 4 = omega (arith, kept_within.fewer_layers, kept_within.layers) in
-        yes _ (yes_and (leb 1 n) (leb n 4) (le→leb 1 n some) (le→leb n 4 few))
+        is_true _ (yes_and (leb 1 n) (leb n 4) (le→leb 1 n some) (le→leb n 4 few))
 
     yes_3 : question3 m ≡ true
     yes_3 = ap (list_any active) (flat_channels q) ∙ (all_yes l e).2
@@ -162,31 +154,31 @@ module _ (l : Layout) (s : Sized l) (a : Accepted l) (bs : List Bool) where
     yes_4 =
         let ns = map layer_count (used_layers l) in
         let ms = map row_count (used_rows l) in
-        let old = and_yes (list_all (from_to 1 6) ns && list_all (leb 1) ms) (leb (total ms) 24) (holds _ (all_yes l e).3) in
+        let old = and_yes (list_all (from_to 1 6) ns && list_all (leb 1) ms) (leb (total ms) 24) (T_from_true _ (all_yes l e).3) in
         let h : T (list_all (from_to 1 6) (map rows_of_layer ys)) = subst (λ (v : List ℕ). T (list_all (from_to 1 6) v)) (sym (layer_counts_lem l s a)) (and_yes (list_all (from_to 1 6) ns) (list_all (leb 1) ms) old.0).0 in
         let cs = rows_kept bs ys in
         let ds = anchors_kept bs ys in
         let p : T (list_all (from_to 1 6) (map layer_count (used_layers m))) = subst (λ (v : List ℕ). T (list_all (from_to 1 6) v)) (sym (flat_layer_counts q ∙ kept_layer_counts bs ys ∙ sym (filter_picked is_positive cs))) (counts_within 6 (map rows_of_layer ys) (map is_positive ds) h) in
         let o : T (list_all (leb 1) (map row_count (used_rows m))) = subst (λ (v : List ℕ). T (list_all (leb 1) v)) (sym (flat_row_counts q ∙ kept_row_counts bs ys ∙ sym (filter_picked is_positive ds))) (positive_all ds) in
         let t : total (map row_count (used_rows m)) ≤ 24 = omega (arith, ap total (flat_row_counts q), concat_long (λ (w : TopologyRow). w.anchors) (rows_in q), kept_within.fewer_anchors, kept_within.anchors) in
-        yes _ (yes_and (list_all (from_to 1 6) (map layer_count (used_layers m)) && list_all (leb 1) (map row_count (used_rows m))) (leb (total (map row_count (used_rows m))) 24) (yes_and (list_all (from_to 1 6) (map layer_count (used_layers m))) (list_all (leb 1) (map row_count (used_rows m))) p o) (le→leb (total (map row_count (used_rows m))) 24 t))
+        is_true _ (yes_and (list_all (from_to 1 6) (map layer_count (used_layers m)) && list_all (leb 1) (map row_count (used_rows m))) (leb (total (map row_count (used_rows m))) 24) (yes_and (list_all (from_to 1 6) (map layer_count (used_layers m))) (list_all (leb 1) (map row_count (used_rows m))) p o) (le→leb (total (map row_count (used_rows m))) 24 t))
 
     yes_5 : question5 m ≡ true
     unfolding question5
     yes_5 =
-        let h = and_yes (ordered (map topology_z ys)) (list_all ordered_layer ys) (holds _ (all_yes l e).4) in
+        let h = and_yes (ordered (map topology_z ys)) (list_all ordered_layer ys) (T_from_true _ (all_yes l e).4) in
         ap (λ (v : List TopologyLayer). ordered (map topology_z v) && list_all ordered_layer v) (flat_topology q)
-        ∙ yes _ (yes_and (ordered (map topology_z q.layers)) (list_all ordered_layer q.layers) (kept_ordered bs ys h.0) (kept_layers bs ys h.1))
+        ∙ is_true _ (yes_and (ordered (map topology_z q.layers)) (list_all ordered_layer q.layers) (kept_ordered bs ys h.0) (kept_layers bs ys h.1))
 
     yes_6 : question6 m ≡ true
     unfolding question6
     yes_6 =
         let names = map anchor_name (used_anchors l) in
         let named : ℕ → Bool = λ n. elem n (active_names l) in
-        let h : T (list_all named names) = holds _ (all_yes l e).5 in
+        let h : T (list_all named names) = T_from_true _ (all_yes l e).5 in
         let p : map anchor_name (used_anchors m) ≡ picked bs names = ap (map anchor_name) (flat_anchors q ∙ kept_anchors_lem bs ys ∙ ap (picked bs) (anchors_are l)) ∙ map_picked anchor_name bs (used_anchors l) in
         ap₂ (λ (cs : List Channel) (v : List ℕ). list_all (λ (n : ℕ). elem n (map channel_name (filter active cs))) v) (flat_channels q) p
-        ∙ yes _ (all_picked named bs names h)
+        ∙ is_true _ (all_picked named bs names h)
 
     pub kept_yes : first_no (layout_questions m) ≡ 0
     kept_yes = sym (first_none m yes_1 yes_2 yes_3 yes_4 yes_5 yes_6)

@@ -14,6 +14,7 @@ use Rattle.layout.specs.Topology.{TopologyRow, TopologyLayer, anchor_name, ancho
 use Rattle.layout.specs.Questions.{topology_y, topology_z}
 use Rattle.keys.specs.Keys.{filled_to, flag_number, pattern, rows_of_layer, anchors_of_row, key_numbers}
 use Rattle.keys.proofs.KeyWhole.{paste_part, length_filled, eight_joined}
+use Rattle.keys.proofs.SameKeys.{filled_long}
 use Rattle.kept_anchors.specs.Steps.Kept.{parts_over}
 
 -- ---- a part that is zeros from n on, written anew up to n
@@ -65,9 +66,6 @@ pub record Within (q r : Room) : Type 0 where
   pub fewer_anchors : length (anchors_in q) ≤ length (anchors_in r)
   pub same : q.channels ≡ r.channels
 
-filled : {A : Type 0} (f : A → ℕ) (v : List A) (m : ℕ) → length v ≤ m → length (filled_to m (map f v)) ≡ m
-filled f v m h = length_filled m (map f v) (omega (arith, length-map v f))
-
 module _ (q r : Room) (w : Within q r) (e : ℕ) where
   abbrev layers_over : List ℕ → List ℕ
   layers_over = parts_over 48 100 (length r.layers) (map rows_of_layer q.layers) (map z_pat q.layers)
@@ -108,18 +106,18 @@ module _ (q r : Room) (w : Within q r) (e : ℕ) where
 
   topology_over : anchors_over (rows_over (layers_over (flatten (names ∷ flags ∷ C r ∷ R r ∷ N r ∷ Z r ∷ Y r ∷ X r ∷ tail ∷ [])))) ≡ flatten (names ∷ flags ∷ C q ∷ R q ∷ N q ∷ Z q ∷ Y q ∷ X q ∷ tail ∷ [])
   topology_over =
-      let n1 = filled channel_name r.channels 24 w.channels in
-      let n2 = filled flag_number r.channels 24 w.channels in
-      let c1 = filled rows_of_layer r.layers 4 w.layers in
-      let c2 = filled rows_of_layer q.layers 4 (omega (arith, w.fewer_layers, w.layers)) in
-      let r1 = filled anchors_of_row (rows_in r) 24 w.rows in
-      let r2 = filled anchors_of_row (rows_in q) 24 (omega (arith, w.fewer_rows, w.rows)) in
-      let m1 = filled anchor_name (anchors_in r) 24 w.anchors in
-      let m2 = filled anchor_name (anchors_in q) 24 (omega (arith, w.fewer_anchors, w.anchors)) in
-      let z1 = filled z_pat r.layers 4 w.layers in
-      let z2 = filled z_pat q.layers 4 (omega (arith, w.fewer_layers, w.layers)) in
-      let y1 = filled y_pat (rows_in r) 24 w.rows in
-      let y2 = filled y_pat (rows_in q) 24 (omega (arith, w.fewer_rows, w.rows)) in
+      let n1 = filled_long channel_name r.channels 24 w.channels in
+      let n2 = filled_long flag_number r.channels 24 w.channels in
+      let c1 = filled_long rows_of_layer r.layers 4 w.layers in
+      let c2 = filled_long rows_of_layer q.layers 4 (omega (arith, w.fewer_layers, w.layers)) in
+      let r1 = filled_long anchors_of_row (rows_in r) 24 w.rows in
+      let r2 = filled_long anchors_of_row (rows_in q) 24 (omega (arith, w.fewer_rows, w.rows)) in
+      let m1 = filled_long anchor_name (anchors_in r) 24 w.anchors in
+      let m2 = filled_long anchor_name (anchors_in q) 24 (omega (arith, w.fewer_anchors, w.anchors)) in
+      let z1 = filled_long z_pat r.layers 4 w.layers in
+      let z2 = filled_long z_pat q.layers 4 (omega (arith, w.fewer_layers, w.layers)) in
+      let y1 = filled_long y_pat (rows_in r) 24 w.rows in
+      let y2 = filled_long y_pat (rows_in q) 24 (omega (arith, w.fewer_rows, w.rows)) in
       ap (λ (p : List ℕ). anchors_over (rows_over p))
       (over_parts rows_of_layer z_pat q.layers r.layers w.fewer_layers 48 100 4 (names ∷ flags ∷ C r ∷ R r ∷ N r ∷ Z r ∷ Y r ∷ X r ∷ tail ∷ []) 2 5 w.layers (omega arith) (omega arith) refl (omega arith) (omega arith) refl)
       ∙ ap anchors_over
@@ -131,14 +129,14 @@ module _ (q r : Room) (w : Within q r) (e : ℕ) where
 
   front_long : length front ≡ 152
   front_long =
-      let n1 = filled channel_name r.channels 24 w.channels in
-      let n2 = filled flag_number r.channels 24 w.channels in
-      let c2 = filled rows_of_layer q.layers 4 (omega (arith, w.fewer_layers, w.layers)) in
-      let r2 = filled anchors_of_row (rows_in q) 24 (omega (arith, w.fewer_rows, w.rows)) in
-      let m2 = filled anchor_name (anchors_in q) 24 (omega (arith, w.fewer_anchors, w.anchors)) in
-      let z2 = filled z_pat q.layers 4 (omega (arith, w.fewer_layers, w.layers)) in
-      let y2 = filled y_pat (rows_in q) 24 (omega (arith, w.fewer_rows, w.rows)) in
-      let x2 = filled x_pat (anchors_in q) 24 (omega (arith, w.fewer_anchors, w.anchors)) in
+      let n1 = filled_long channel_name r.channels 24 w.channels in
+      let n2 = filled_long flag_number r.channels 24 w.channels in
+      let c2 = filled_long rows_of_layer q.layers 4 (omega (arith, w.fewer_layers, w.layers)) in
+      let r2 = filled_long anchors_of_row (rows_in q) 24 (omega (arith, w.fewer_rows, w.rows)) in
+      let m2 = filled_long anchor_name (anchors_in q) 24 (omega (arith, w.fewer_anchors, w.anchors)) in
+      let z2 = filled_long z_pat q.layers 4 (omega (arith, w.fewer_layers, w.layers)) in
+      let y2 = filled_long y_pat (rows_in q) 24 (omega (arith, w.fewer_rows, w.rows)) in
+      let x2 = filled_long x_pat (anchors_in q) 24 (omega (arith, w.fewer_anchors, w.anchors)) in
       let p2 = names ++ flags in
       let p3 = p2 ++ C q in
       let p4 = p3 ++ R q in

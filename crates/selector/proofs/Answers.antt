@@ -1,30 +1,26 @@
 -- What each way through the call leaves is what its definition says.
-use Prim.Native.Nat.{ℕ, ◌≤◌}
-use mathlib.Core.Path.{◌≡◌, refl, sym, ap, ap₂, ◌∙◌, subst}
-use mathlib.Core.Bool.{Bool, true, cond}
+use Prim.Native.Nat.{ℕ}
+use mathlib.Core.Path.{◌≡◌, refl, sym, ap, ◌∙◌, subst}
+use mathlib.Core.Bool.{Bool, cond}
 use mathlib.Core.List.{List, ◌++◌}
-use native.Mathlib.Omega.{arith}
-use borrow.Author.Tests.{le-leb, lt-ltb, eq-eqb, ne_eqb}
-use lib.Dec.{ltb}
+use borrow.Author.Tests.{eq-eqb, ne_eqb}
 use lib.Ieee.{Float}
 use lib.ListN.{length}
-use Rattle.layout.specs.Questions.{first_no, layout_questions}
+use Rattle.layout.specs.Questions.{first_no}
 use Rattle.layout.specs.Room.{active_in}
-use Rattle.field.specs.Place.{filled, fillable}
 use Rattle.layout.specs.declared.Centre.{Centre}
-use Rattle.keys.specs.InKey.{layout_in, room_in}
+use Rattle.keys.specs.InKey.{room_in}
 use Rattle.cache.specs.declared.Ring.{Ring}
 use Rattle.cache.specs.declared.Word.{Word}
-use Rattle.cache.specs.declared.Word.TheVariants.{Unused, Built}
+use Rattle.cache.specs.declared.Word.TheVariants.{Unused}
 use Rattle.cache.specs.Questions.{lent_questions, state_questions}
-use Rattle.cache.specs.Places.{with_key, slot_of, new_place, ring_after}
-use Rattle.std.specs.Prelude.{Option, Result, Ok, Err}
+use Rattle.std.specs.Prelude.{Result, Ok, Err}
 use Rattle.layout.specs.declared.refusal.Refusal.{Refusal}
 use Rattle.layout.specs.Refusals.{refusal_of, answer_by}
 use Rattle.layout.proofs.RefusalLaws.{ok_says, err_says}
 use Rattle.extent.specs.declared.Reading.{Reading}
 use Rattle.selector.specs.declared.Reply.{Reply}
-use Rattle.selector.specs.Call.{Answer, Found, Wanted, gains_by, accepted_with, newly_built, keyed_by, keyed_of, served, refused_by}
+use Rattle.selector.specs.Call.{Answer, Found, Wanted, gains_by, accepted_with, keyed_of, served, refused_by}
 use Rattle.selector.specs.Steps.{wanted_in, later_questions, later_answer, found_by, Leaves}
 
 module _ (keys : List ℕ) (r : Ring) (store : List Float) (key : List ℕ) (reading : Reading) (c : Centre) (points gains : List Float) where
@@ -37,33 +33,6 @@ module _ (keys : List ℕ) (r : Ring) (store : List Float) (key : List ℕ) (rea
   -- ---- over a place as it is
   pub accepted_leaves : (word : Word) (p : ℕ) (s : Reply) (gains' : List Float) → s ≡ record { outcome = Ok (record { n = active_in (room_in key); word = word }); ring = r } → gains' ≡ gains_by W store p → Leaves (accepted_with word W F p) s keys store gains'
   accepted_leaves word p s gains' e g = (e, (refl, (refl, g)))
-
-  -- ---- a new field
-  abbrev place : ℕ
-  place = new_place r
-
-  fills : first_no (layout_questions (layout_in key)) ≡ 0 → 285312 ≤ length store → fillable key place store ≡ true
-  fills y big = rw (eq-eqb (first_no (layout_questions (layout_in key))) 0 y, le-leb 285312 (length store) big, lt-ltb place 8 (omega arith))
-
-  pub built_leaves : first_no (layout_questions (layout_in key)) ≡ 0 → 285312 ≤ length store → (at : ℕ) (ring : Ring) (s : Reply) (keys' : List ℕ) (store' gains' : List Float) → at ≡ place → ring ≡ ring_after r → s ≡ record { outcome = Ok (record { n = active_in (room_in key); word = Built }); ring = ring } → keys' ≡ cond (ltb at 8) (with_key keys at key) keys → store' ≡ cond (fillable key at store) (filled (room_in key) at store) store → gains' ≡ gains_by W store' at → Leaves (newly_built W F) s keys' store' gains'
-  built_leaves y big at ring s keys' store' gains' a t e k f g =
-      let filled' : store' ≡ filled (room_in key) place store =
-      f
-      ∙ ap (λ (p : ℕ). cond (fillable key p store) (filled (room_in key) p store) store) a
-      ∙ ap (λ (b : Bool). cond b (filled (room_in key) place store) store) (fills y big) in (
-        e ∙ ap (λ (x : Ring). record { outcome = Ok (record { n = active_in (room_in key); word = Built }); ring = x }) t,
-        (
-          k
-              ∙ ap (λ (p : ℕ). cond (ltb p 8) (with_key keys p key) keys) a
-              ∙ ap (λ (b : Bool). cond b (with_key keys place key) keys) (lt-ltb place 8 (omega arith)),
-          (filled', g ∙ ap₂ (λ (x : List Float) (p : ℕ). gains_by W x p) filled' a),
-        ),
-      )
-
-  -- ---- by the slot of the key
-  module _ (slot : Option ℕ) (f : slot ≡ slot_of keys r key) (s : Reply) (keys' : List ℕ) (store' gains' : List Float) where
-    pub keyed_leaves : (t : Option ℕ) → slot ≡ t → Leaves (keyed_by W F t) s keys' store' gains' → Leaves (keyed_of W F) s keys' store' gains'
-    keyed_leaves t e h = subst (λ (x : Option ℕ). Leaves (keyed_by W F x) s keys' store' gains') (sym e ∙ f) h
 
   -- ---- by questions 11 to 14, and the mean
   -- those that were asked, with n channels, are those of what is wanted

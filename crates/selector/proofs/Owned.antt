@@ -1,4 +1,4 @@
--- The coordinates of a layout by value are doubles: what owning its arrays tells.
+-- What owning a layout and a centre tells of a call's types: its arrays have their lengths, and its coordinates are doubles.
 use mathlib.Core.Path.{sym, subst}
 use mathlib.Core.List.{List, [], ◌∷◌, map}
 use lib.Dec.{T}
@@ -17,6 +17,10 @@ use Rattle.layout.specs.contracts.Layout as layout
 use Rattle.layout.specs.contracts.Anchor as anchor
 use Rattle.layout.specs.contracts.Row as row
 use Rattle.layout.specs.contracts.Layer as layer
+use Rattle.layout.specs.contracts.Centre as centre
+use borrow.Author.Rules.{rules}
+use Rattle.lists.proofs.Loops.{long}
+use Rattle.selector.specs.Call.{Call, Typed}
 
 pub zs_owned : (xs : List Layer) (us : List Val) → shadow (each layer.the_row.Denot layer.the_row.own_val xs us) → T (list_all (fits binary64) (map layer_z xs))
 zs_owned [] us s = tt
@@ -37,3 +41,18 @@ xs_owned (x ∷ xs) (u ∷ us) s = yes_and (fits binary64 x.x) (list_all (fits b
 pub layout_owned : (l : Layout) (us : List Val) → shadow (layout.the_row.own_val l us) → T (list_all (fits binary64) (map layer_z l.layers)) × T (list_all (fits binary64) (map row_y l.rows)) × T (list_all (fits binary64) (map anchor_x l.anchors))
 layout_owned l us s =
     (zs_owned l.layers s.1.1.1.1.0.0 s.1.1.1.1.0.1.1, ys_owned l.rows s.1.1.1.1.1.1.0.0 s.1.1.1.1.1.1.0.1.1, xs_owned l.anchors s.1.1.1.1.1.1.1.0.0 s.1.1.1.1.1.1.1.0.1.1)
+
+-- of a call
+pub call_owned : (c : Call) (us vs : List Val) → shadow (layout.the_row.own_val c.layout us) → shadow (centre.the_row.own_val c.centre vs) → Typed c
+call_owned c us vs s t =
+    let lent = layout_owned c.layout us s in
+    record {
+      channels = search (rules, long);
+      layers = search (rules, long);
+      rows = search (rules, long);
+      anchors = search (rules, long);
+      zs = lent.0;
+      ys = lent.1;
+      xs = lent.2;
+      centre = (subst T (sym t.1.1.0.1) tt, subst T (sym t.1.1.1.0.1) tt, subst T (sym t.1.1.1.1.0.1) tt);
+    }

@@ -15,6 +15,7 @@ use Rattle.selection.specs.Steps.{selected_key}
 use Rattle.cache.specs.declared.Ring.{Ring}
 use Rattle.cache.specs.Questions.{lent_questions, state_questions}
 use Rattle.selector.specs.declared.Reply.{Reply}
+use Rattle.selector.specs.declared.call.Wide.{Wide}
 use Rattle.selector.specs.declared.Selector.{Selector}
 use Rattle.selector.specs.Call.{Call, Found, Wanted, Answer, state_by, zone_questions, served, refused_by, answer_of, outcome_of}
 
@@ -43,6 +44,10 @@ planned_key key e flags = cond (eqb (first_no (plan_questions key e flags)) 0) (
 abbrev pub wanted_in : List ℕ → Reading → Centre → List Float → List Float → Wanted
 wanted_in key reading c points gains =
     record { room = room_in key; key = key; n = active_in (room_in key); mean = reading.mean; radius = reading.radius; centre = c; points = points; gains = gains }
+
+-- what is wanted for a wide object
+abbrev pub wanted_of : Wide → List Float → Wanted
+wanted_of w gains = wanted_in w.room.key.now w.reading w.centre w.points.now gains
 
 -- 11 to 14
 abbrev pub later_questions : Wanted → Found → List Question

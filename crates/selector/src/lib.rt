@@ -7,6 +7,7 @@ ghost use Rattle.selector.specs.Steps.{answer_to, selector_of};
 
 mod call;
 mod planning;
+mod room_key;
 
 pub use cache::{Ring, Word};
 pub use call::project_outcome_with_epoch;
@@ -39,7 +40,8 @@ pub struct Selector {
     pub oldest: usize,
 }
 
-// What a call answers, with the selector that it leaves.
+// What a call answers, with the selector that it leaves. Apart from `Reply`: one type over what is left would
+// call ring and selector by one name.
 #[derive(Clone, Copy)]
 pub struct SelectorReply {
     pub outcome: Outcome,
@@ -80,6 +82,7 @@ impl Selector {
             (found_in self store.old)).gains }
     {
         let mut keys = self.keys;
+        // By its two fields, here and in `rugvocse`: a method would be public for these two.
         let r = Ring {
             count: self.count,
             oldest: self.oldest,

@@ -9,6 +9,7 @@ use lib.Dec.{eqb, ltb}
 use lib.Ieee.{Float}
 use lib.Ieee.Fits.{and_l, and_r}
 use lib.ListN.{length, get_or, take, drop}
+use lib.Ieee.Bits.{is_true}
 use Rattle.std.specs.List.{list_all, list_any}
 use Rattle.layout.specs.Room.{Room}
 use Rattle.layout.specs.Same.{same_room}
@@ -20,6 +21,10 @@ use Rattle.field.proofs.Patching.{patched_length}
 use Rattle.keys.specs.Keys.{key_numbers}
 use Rattle.keys.proofs.SameKeys.{key_same, same_key_lem}
 use Rattle.std.specs.Prelude.{Option, Some, None}
+use Rattle.std.proofs.lemmas.List.Folds.{list_any_at}
+use Rattle.std.proofs.lemmas.List.Recursion.{or_from_places}
+use Rattle.std.proofs.lemmas.Bool.{false_from_ne_true}
+use Rattle.std.proofs.lemmas.Float.{T_from_true}
 use Rattle.cache.specs.declared.Word.{Word}
 use Rattle.cache.specs.declared.Word.TheVariants.{Unused, Kept, Built}
 use Rattle.cache.specs.Places.{key_at, with_key, slot_of}
@@ -29,25 +34,11 @@ use Rattle.selector.specs.Call.{Call, Found, Answer, Typed, answered, selected_o
 use Rattle.selector.proofs.Questions.{asked_alone, Said, said}
 use Rattle.selector_law.specs.Rule.{Key, packed_key, same_key, call_key, KeptList, none, refusal_by, is_held, leaves, is_full, with_new, after_call, store_after, keys_after, word_of, fresh, Right}
 use Rattle.selector_law.proofs.Held.{no_key, Holds, fresh_holds, asks_14, holds_keys, grown_holds, turned_holds}
-use Rattle.selector_law.proofs.Serving.{yes, true_of, selected_sound, store_big, served_field, served_point, served_bounded, point_served_bounded}
+use Rattle.selector_law.proofs.Serving.{selected_sound, store_big, served_field, served_point, served_bounded, point_served_bounded}
 
 -- ---- a key among keys
-any_it : (p : Key → Bool) (ks : List Key) (i : ℕ) → i < length ks → p (get_or ks i no_key) ≡ true → list_any p ks ≡ true
-any_it p [] i h e = absurd (omega arith)
-any_it p (k ∷ ks) zero h e = ap (λ (b : Bool). b || list_any p ks) e
-any_it p (k ∷ ks) (suc i) h e = ap (λ (b : Bool). p k || b) (any_it p ks i (omega arith) e) ∙ either (p k)
-  where
-    either : (b : Bool) → (b || true) ≡ true
-    either true = refl
-    either false = refl
-
 any_not : (p : Key → Bool) (ks : List Key) → ((i : ℕ) → i < length ks → p (get_or ks i no_key) ≡ true → ⊥) → list_any p ks ≡ false
-any_not p [] h = refl
-any_not p (k ∷ ks) h = go (p k) refl (any_not p ks (λ i l. h (suc i) (omega arith)))
-  where
-    go : (b : Bool) → p k ≡ b → list_any p ks ≡ false → (b || list_any p ks) ≡ false
-    go true e r = absurd (h 0 (omega arith) e)
-    go false e r = r
+any_not p ks h = or_from_places (list_any p) p refl (λ x xs. refl) ks no_key (λ i l. false_from_ne_true (p (get_or ks i no_key)) (h i l))
 
 -- ---- what the selector is, by the rule's list
 abbrev found_of : KeptList → List ℕ → List Float → Found
@@ -105,7 +96,7 @@ module _ (c : Call) (t : Typed c) where
         let m = key_same sel x.room sound z.sound c.epoch x.epoch (sym e ∙ z.numbers) in
         record {
           within = l;
-          held = any_it (same_key (call_key c)) k.keys i l (ap₂ ◌&&◌ (true_of (same_room sel x.room) m.0) (eq-eqb c.epoch x.epoch m.1));
+          held = list_any_at (same_key (call_key c)) k.keys i no_key l (ap₂ ◌&&◌ (is_true (same_room sel x.room) m.0) (eq-eqb c.epoch x.epoch m.1));
           field = same_filled sel x.room sound z.sound m.0 ((k.oldest + i) % 8) s ∙ z.field;
         }
 
@@ -116,9 +107,9 @@ module _ (c : Call) (t : Typed c) where
         (λ i l e.
         let x = get_or k.keys i no_key in
         let z = h.places i l in
-        let y = yes (same_key (call_key c) x) e in
+        let y = T_from_true (same_key (call_key c) x) e in
         let a = and_l (same_room sel x.room) (eqb c.epoch x.epoch) y in
-        let b = eqb-true c.epoch x.epoch (true_of (eqb c.epoch x.epoch) (and_r (same_room sel x.room) (eqb c.epoch x.epoch) y)) in
+        let b = eqb-true c.epoch x.epoch (is_true (eqb c.epoch x.epoch) (and_r (same_room sel x.room) (eqb c.epoch x.epoch) y)) in
         n i l (z.numbers ∙ sym (same_key_lem sel x.room a c.epoch ∙ ap (key_numbers x.room) b)))
 
     -- the three ways

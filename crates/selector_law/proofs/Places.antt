@@ -7,6 +7,7 @@ use native.Mathlib.Nat.{eq-or-lt_of_le}
 use native.Mathlib.Omega.{arith}
 use lib.ListN.{length, get_or, drop, length-append, length-drop, length-map, length-take, get_or-append}
 use lib.Seq.{get_or_at, get_or-drop, get_or-take, ext_get_or}
+use Rattle.std.proofs.lemmas.List.{get_or-map}
 use Rattle.cache.specs.Places.{first_places}
 use Rattle.cache.proofs.KeyCompare.{eight_at}
 
@@ -58,12 +59,7 @@ listed_up g h none ks n e few same =
     ext_get_or (h none) (map g (first_places n)) (map h ks) (omega arith)
     (λ i l.
     let j : i < n = omega arith in
-    get_or_map_in g (first_places n) i 0 (h none) (omega arith)
+    get_or-map g (first_places n) i 0 (h none) (omega arith)
     ∙ ap g (get_or-take n (0 ∷ 1 ∷ 2 ∷ 3 ∷ 4 ∷ 5 ∷ 6 ∷ 7 ∷ []) i 0 j ∙ eight_at i (omega arith))
     ∙ same i j
-    ∙ sym (get_or_map_in h ks i none (h none) (omega arith)))
-  where
-    get_or_map_in : {X Y : Type 0} (f : X → Y) (xs : List X) (i : ℕ) (d : X) (y : Y) → i < length xs → get_or (map f xs) i y ≡ f (get_or xs i d)
-    get_or_map_in f [] i d y h = absurd (omega arith)
-    get_or_map_in f (x ∷ xs) zero d y h = refl
-    get_or_map_in f (x ∷ xs) (suc i) d y h = get_or_map_in f xs i d y (omega arith)
+    ∙ sym (get_or-map h ks i none (h none) (omega arith)))

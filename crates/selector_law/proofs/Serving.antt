@@ -11,13 +11,17 @@ use lib.Ieee.Fits.{and_l, and_r}
 use lib.Ieee.Scale.{finite}
 use lib.ListN.{length, get_or, take, length-take}
 use lib.Seq.{get_or-take}
+use lib.Ieee.Bits.{is_true}
 use Rattle.doubles.specs.Arithmetic.{zero64, dec}
 use Rattle.doubles.specs.Norm.{five_quarters, Bounded}
 use Rattle.doubles.specs.Range.{is_between}
 use Rattle.std.specs.List.{list_all}
+use Rattle.std.proofs.lemmas.Float.{T_from_true}
+use Rattle.std.proofs.lemmas.List.Recursion.{and_from_places}
 use Rattle.layout.specs.Topology.{TopologyLayer}
 use Rattle.layout.specs.Room.{active_in}
 use Rattle.layout.proofs.SoundRoom.{SoundRoom}
+use Rattle.layout.proofs.QuestionsLoops.{all_at}
 use Rattle.extent.specs.Extent.{mean_of, mean_radius}
 use Rattle.gains.specs.Gains.{projectable, projected}
 use Rattle.field.specs.Place.{filled}
@@ -30,36 +34,20 @@ use Rattle.selector.proofs.Questions.{Said}
 use Rattle.selector.proofs.Selected.{call_sound}
 
 -- ---- gains as tests and as facts
-pub yes : (b : Bool) → b ≡ true → T b
-yes b e = subst T (sym e) tt
-
-pub true_of : (b : Bool) → T b → b ≡ true
-true_of true h = refl
-true_of false h = absurd h
-
 quarters : dec 125 2 ≡ five_quarters
 unfolding round
 quarters = refl
 
 is_bounded : (g : Float) → is_gain g ≡ true → Bounded g
 is_bounded g e =
-    let t = yes (is_gain g) e in
+    let t = T_from_true (is_gain g) e in
     let b = and_r (finite g) (is_between zero64 (dec 125 2) g) t in
     (and_l (finite g) (is_between zero64 (dec 125 2) g) t, and_l (le zero64 g) (le g (dec 125 2)) b, subst (λ (q : Float). T (le g q)) quarters (and_r (le zero64 g) (le g (dec 125 2)) b))
 
 bounded_is : (g : Float) → Bounded g → is_gain g ≡ true
 bounded_is g b =
-    let u = true_of (le g (dec 125 2)) (subst (λ (q : Float). T (le g q)) (sym quarters) b.2) in
-    rw (true_of (finite g) b.0, true_of (le zero64 g) b.1, u)
-
-all_at : (p : Float → Bool) (xs : List Float) (i : ℕ) → list_all p xs ≡ true → i < length xs → p (get_or xs i nan) ≡ true
-all_at p [] i e h = absurd (omega arith)
-all_at p (x ∷ xs) zero e h = true_of (p x) (and_l (p x) (list_all p xs) (yes (p x && list_all p xs) e))
-all_at p (x ∷ xs) (suc i) e h = all_at p xs i (true_of (list_all p xs) (and_r (p x) (list_all p xs) (yes (p x && list_all p xs) e))) (omega arith)
-
-all_by : (p : Float → Bool) (xs : List Float) → ((i : ℕ) → i < length xs → p (get_or xs i nan) ≡ true) → list_all p xs ≡ true
-all_by p [] h = refl
-all_by p (x ∷ xs) h = rw (h 0 (omega arith), all_by p xs (λ i l. h (suc i) (omega arith)))
+    let u = is_true (le g (dec 125 2)) (subst (λ (q : Float). T (le g q)) (sym quarters) b.2) in
+    rw (is_true (finite g) b.0, is_true (le zero64 g) b.1, u)
 
 -- ---- the selected room
 module _ (c : Call) (t : Typed c) (size : ℕ) (q : Said c size) where
@@ -74,18 +62,18 @@ module _ (c : Call) (t : Typed c) (size : ℕ) (q : Said c size) where
       go false ys = refl
 
   pub store_big : 285312 ≤ size
-  store_big = leb-true 285312 size (true_of (leb 285312 size) (and_r (leb (answered c) (length c.gains)) (leb 285312 size) (yes (question13 (answered c) (length c.gains) size) q.yes13)))
+  store_big = leb-true 285312 size (is_true (leb 285312 size) (and_r (leb (answered c) (length c.gains)) (leb 285312 size) (T_from_true (question13 (answered c) (length c.gains) size) q.yes13)))
 
   slots : answered c ≤ length c.gains
-  slots = leb-true (answered c) (length c.gains) (true_of (leb (answered c) (length c.gains)) (and_l (leb (answered c) (length c.gains)) (leb 285312 size) (yes (question13 (answered c) (length c.gains) size) q.yes13)))
+  slots = leb-true (answered c) (length c.gains) (is_true (leb (answered c) (length c.gains)) (and_l (leb (answered c) (length c.gains)) (leb 285312 size) (T_from_true (question13 (answered c) (length c.gains) size) q.yes13)))
 
   points_many : length c.points ≡ answered c
-  points_many = eqb-true (length c.points) (answered c) (true_of _ (and_l (eqb (length c.points) (answered c)) (list_all is_gain c.points) (yes (question12 (answered c) c.points) q.yes12)))
+  points_many = eqb-true (length c.points) (answered c) (is_true _ (and_l (eqb (length c.points) (answered c)) (list_all is_gain c.points) (T_from_true (question12 (answered c) c.points) q.yes12)))
 
   points_bounded : (i : ℕ) → i < answered c → Bounded (get_or c.points i nan)
   points_bounded i h =
       is_bounded (get_or c.points i nan)
-      (all_at is_gain c.points i (true_of _ (and_r (eqb (length c.points) (answered c)) (list_all is_gain c.points) (yes (question12 (answered c) c.points) q.yes12))) (omega (arith, points_many)))
+      (all_at is_gain c.points i nan (is_true _ (and_r (eqb (length c.points) (answered c)) (list_all is_gain c.points) (T_from_true (question12 (answered c) c.points) q.yes12))) (omega (arith, points_many)))
 
   few : answered c ≤ 24
   few = omega (arith, selected_count, selected_sound.few_active)
@@ -118,7 +106,7 @@ module _ (c : Call) (t : Typed c) (size : ℕ) (q : Said c size) where
   -- ---- the bound
   gains_all : (gs : List Float) → ((i : ℕ) → i < answered c → Bounded (get_or gs i nan)) → list_all is_gain (take (answered c) gs) ≡ true
   gains_all gs h =
-      all_by is_gain (take (answered c) gs)
+      and_from_places (list_all is_gain) is_gain refl (λ y ys. refl) (take (answered c) gs) nan
       (λ i l.
       let j : i < answered c = omega (arith, simp length-take at l) in
       ap is_gain (get_or-take (answered c) gs i nan j) ∙ bounded_is (get_or gs i nan) (h i j))

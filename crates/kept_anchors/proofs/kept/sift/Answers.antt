@@ -3,9 +3,10 @@ use Prim.Native.Nat.{◌+◌}
 use mathlib.Core.Path.{refl, ◌∙◌}
 use native.Mathlib.Omega.{arith}
 use lib.ListN.{length, get_or}
+use borrow.Author.Rules.{rules}
 use Rattle.kept_anchors.proofs.Counts.{count_picked}
 use Rattle.kept_anchors.proofs.Reached.{part_at, part_long}
-use Rattle.kept_anchors.proofs.Sifted.{sifted_none, sifted_keep, sifted_skip, sifted_first, sifted_second, sifted_count, zeroed_none, zeroed_more, zeroed_done}
+use Rattle.kept_anchors.proofs.Sifted.{sifted_none, sifted_keep, sifted_skip, sifted_first, sifted_second, sifted_count, zeros_behind}
 use Rattle.kept_anchors.proofs.kept.sift.Goals as goal
 use Rattle.kept_anchors.proofs.kept.sift.Goals.{then-keep, else-keep}
 
@@ -28,16 +29,10 @@ loop-i-preserved c =
       | else-keep w ↦ sifted_skip s.a s.b _ _ _ _ _ v.key v.k v.i v.invariant _ _ w.key-is w.k-is (omega arith) w.if-keep.false
     ]
 
-pub loop-j-init : goal.loop-j-init
-loop-j-init c =
-    let v = c.loop-i in
-    zeroed_none c.args.a c.args.b _ _ _ _ _ v.key v.k v.i v.invariant c.loop-i-test.false
-
-pub loop-j-preserved : goal.loop-j-preserved
-loop-j-preserved c = zeroed_more _ _ _ _ _ _ _ _ _ c.loop-j.invariant c.loop-j-test.true
-
 pub returns-clause-key_after : goal.returns-clause-key_after
-returns-clause-key_after c = zeroed_done _ _ _ _ _ _ _ _ _ c.loop-j.invariant c.loop-j-test.false
+returns-clause-key_after c =
+    let v = c.loop-i in
+    zeros_behind c.args.a c.args.b _ _ _ _ _ v.key v.k v.i v.invariant c.loop-i-test.false c.fill.new.self c.fill-2.new.self (search rules) (search rules)
 
 pub returns-clause-number : goal.returns-clause-number
 returns-clause-number c =

@@ -10,4 +10,4 @@ abbrev pub by : RegionHorizontalState → RegionSemanticState
 by h = record { horizontal = h; top = Include }
 
 abbrev pub invariant-loop-i : goal.invariant-loop-i
-invariant-loop-i l = (l.depth ≤ 4) × ClassedFrom l.key (by l.h) l.five l.i
+invariant-loop-i l = (l.depth ≤ 4) × ClassedFrom l.key (by l.bed.horizontal) l.bed.five l.i

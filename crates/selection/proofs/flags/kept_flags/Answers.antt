@@ -1,8 +1,9 @@
 -- The flags of the first i layers are written.
-use mathlib.Core.Path.{refl, ap}
+use mathlib.Core.Path.{refl, ap, ◌∙◌}
 use mathlib.Core.Bool.{not}
 use native.Mathlib.Omega.{arith}
 use borrow.Author.Rules.{rules}
+use borrow.Rule.Slice.PartMut.{same_len_mid}
 use Rattle.selection.proofs.KeyLayers.{depth_few, used_few, flags_none, flags_more, flags_done}
 use Rattle.selection.proofs.flags.kept_flags.Goals as goal
 
@@ -16,8 +17,8 @@ pub loop-i-preserved : goal.loop-i-preserved
 loop-i-preserved c =
     let v = c.loop-i in
     let a = c.args in
-    let f = flags_more a.key.now a.state c.layer_starts-starts.result c.layer_starts-starts.ensures.value v.kept _ v.i _ _ _ _ c.loop-i-test.true v.invariant.2 c.flag_layer.ensures c.rule_of-rule.ensures c.of_bits.ensures c.is_22_2-has_flc.ensures (ap not c.any_outside_five-five.ensures) in
-    (v.invariant.0, search rules, f)
+    let f = flags_more a.key.now a.state c.layer_starts-starts.result c.layer_starts-starts.ensures.value v.kept _ v.i _ _ _ _ c.loop-i-test.true v.invariant.2 (c.layer_starts-starts.ensures.rise v.i (omega (arith, v.invariant.0, c.loop-i-test.true))) c.flag_layer.ensures c.rule_of-rule.ensures c.of_bits.ensures c.is_22_2-has_flc.ensures (ap not c.any_outside_five-five.ensures) in
+    (v.invariant.0, same_len_mid _ _ _ _ c.flag_layer.auto.kept ∙ v.invariant.1, f)
 
 pub returns : goal.returns
 returns c =

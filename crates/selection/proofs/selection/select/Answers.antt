@@ -9,7 +9,9 @@ use borrow.Author.Rules.{rules}
 use lib.ListN.{length}
 use Rattle.std.specs.List.{list_any}
 use Rattle.layout.specs.Steps.Accepted.{Accepted}
+use Rattle.std.proofs.lemmas.Result.{err_from_is_err_and}
 use Rattle.layout.proofs.QuestionsAccepted.{accepted}
+use Rattle.layout.proofs.RefusalLaws.{ask_ok, ask_err}
 use Rattle.region.specs.Zones.{is_default}
 use Rattle.keys.specs.InKey.{layout_in, room_in}
 use Rattle.keys.proofs.InKey.{sized}
@@ -54,29 +56,34 @@ returns-then-is_default c =
 pub kept_flags-flags-requires : goal.kept_flags-flags-requires
 kept_flags-flags-requires c = room_accepted c.args.key.now (search rules) c.requires
 
-pub returns-then-not-any_set : goal.returns-then-not-any_set
-returns-then-not-any_set c =
+pub returns-in_err-ask : goal.returns-in_err-ask
+returns-in_err-ask c =
     let s = c.args.state in
     let key = c.args.key.now in
     let other = sym c.is_default.ensures ∙ c.if-is_default.false in
-    let h = refused_9 s key c.requires (nine s key _ _ false other c.kept_flags-flags.ensures c.any_set.ensures c.if-not-any_set.true) in
+    let no = ask_err (tt {0}) c.any_set.result _ _ (sym c.ask.ensures ∙ c.in_err-ask.was) in
+    let h = refused_9 s key c.requires (nine s key _ _ false other c.kept_flags-flags.ensures c.any_set.ensures no.0) in
+    let p = err_from_is_err_and c.from_residual.result c.from_residual.ensures.1 in
     record {
-      value = h.0;
+      value = let e = no.1 in let v = h.0 in cc;
       key = h.1;
     }
 
 pub bed_classed-requires : goal.bed_classed-requires
 bed_classed-requires c = room_accepted c.args.key.now (search rules) c.requires
 
-pub returns-then-not-bed_classed : goal.returns-then-not-bed_classed
-returns-then-not-bed_classed c =
+pub returns-in_err-ask-2 : goal.returns-in_err-ask-2
+returns-in_err-ask-2 c =
     let s = c.args.state in
     let key = c.args.key.now in
     let other = sym c.is_default.ensures ∙ c.if-is_default.false in
-    let yes = nine s key _ _ true other c.kept_flags-flags.ensures c.any_set.ensures c.if-not-any_set.false in
-    let h = refused_10 s key c.requires yes (sym c.bed_classed.ensures ∙ c.if-not-bed_classed.true) in
+    let some = ask_ok (tt {0}) c.any_set.result _ _ (sym c.ask.ensures ∙ c.in_ok-ask.was) in
+    let no = ask_err (tt {0}) c.bed_classed.result _ _ (sym c.ask-2.ensures ∙ c.in_err-ask-2.was) in
+    let yes = nine s key _ _ true other c.kept_flags-flags.ensures c.any_set.ensures some in
+    let h = refused_10 s key c.requires yes (sym c.bed_classed.ensures ∙ no.0) in
+    let p = err_from_is_err_and c.from_residual-in_err-ask-2.result c.from_residual-in_err-ask-2.ensures.1 in
     record {
-      value = h.0;
+      value = let e = no.1 in let v = h.0 in cc;
       key = h.1;
     }
 
@@ -87,8 +94,8 @@ returns c =
     let long : length key ≡ 156 = search rules in
     let words : Words key = λ i. omega (arith, c.fits-key i) in
     let other = sym c.is_default.ensures ∙ c.if-is_default.false in
-    let yes = nine s key _ _ true other c.kept_flags-flags.ensures c.any_set.ensures c.if-not-any_set.false in
-    let ten = sym c.bed_classed.ensures ∙ c.if-not-bed_classed.false in
+    let yes = nine s key _ _ true other c.kept_flags-flags.ensures c.any_set.ensures (ask_ok (tt {0}) c.any_set.result _ _ (sym c.ask.ensures ∙ c.in_ok-ask.was)) in
+    let ten = sym c.bed_classed.ensures ∙ ask_ok (tt {0}) c.bed_classed.result _ _ (sym c.ask-2.ensures ∙ c.in_ok-ask-2.was) in
     record {
       value = answer_0 s key c.requires yes ten;
       key = c.pack_kept.ensures

@@ -8,15 +8,15 @@ use Rattle.selector.proofs.call.answer_by_key.Goals as goal
 pub returns-in-Err : goal.returns-in-Err
 returns-in-Err c =
     let a = c.args in
-    let q = later_asked a.keys.now a.r a.store.now a.room.key.now a.w.reading a.w.centre a.w.points.now a.gains.now (tt {0}) _ _ c.n-n.ensures c.later_no.ensures in
-    later_refused a.keys.now a.r a.store.now a.room.key.now a.w.reading a.w.centre a.w.points.now a.gains.now (tt {0}) _ q c.in-Err.no c.in-Err.is _ c.refused.ensures
+    let q = later_asked a.keys.now a.r a.store.now a.w.room.key.now a.w.reading a.w.centre a.w.points.now a.gains.now (tt {0}) _ _ a.w.room.counted c.later_no.ensures in
+    later_refused a.keys.now a.r a.store.now a.w.room.key.now a.w.reading a.w.centre a.w.points.now a.gains.now (tt {0}) _ q c.in-Err.no c.in-Err.is _ c.refused.ensures
 
 pub returns-then-w-eq0 : goal.returns-then-w-eq0
 returns-then-w-eq0 c =
     let a = c.args in
-    let q = later_asked a.keys.now a.r a.store.now a.room.key.now a.w.reading a.w.centre a.w.points.now a.gains.now (tt {0}) _ _ c.n-n.ensures c.later_no.ensures in
-    later_unused a.keys.now a.r a.store.now a.room.key.now a.w.reading a.w.centre a.w.points.now a.gains.now (tt {0}) _ q _ c.in_default.is c.if-w-eq0.true _ _
-    (accepted_leaves a.keys.now a.r a.store.now a.room.key.now a.w.reading a.w.centre a.w.points.now a.gains.now _ _ _ _ c.accepted.ensures.reply c.accepted.ensures.gains)
+    let q = later_asked a.keys.now a.r a.store.now a.w.room.key.now a.w.reading a.w.centre a.w.points.now a.gains.now (tt {0}) _ _ a.w.room.counted c.later_no.ensures in
+    later_unused a.keys.now a.r a.store.now a.w.room.key.now a.w.reading a.w.centre a.w.points.now a.gains.now (tt {0}) _ q _ c.in_default.is c.if-w-eq0.true _ _
+    (accepted_leaves a.keys.now a.r a.store.now a.w.room.key.now a.w.reading a.w.centre a.w.points.now a.gains.now _ _ _ _ c.accepted.ensures.reply c.accepted.ensures.gains)
 
 pub keyed-requires : goal.keyed-requires
 keyed-requires c =
@@ -26,5 +26,5 @@ keyed-requires c =
 pub returns : goal.returns
 returns c =
     let a = c.args in
-    let q = later_asked a.keys.now a.r a.store.now a.room.key.now a.w.reading a.w.centre a.w.points.now a.gains.now (tt {0}) _ _ c.n-n.ensures c.later_no.ensures in
-    later_keyed a.keys.now a.r a.store.now a.room.key.now a.w.reading a.w.centre a.w.points.now a.gains.now (tt {0}) _ q _ c.in_default.is c.if-w-eq0.false _ _ _ _ c.keyed.ensures
+    let q = later_asked a.keys.now a.r a.store.now a.w.room.key.now a.w.reading a.w.centre a.w.points.now a.gains.now (tt {0}) _ _ a.w.room.counted c.later_no.ensures in
+    later_keyed a.keys.now a.r a.store.now a.w.room.key.now a.w.reading a.w.centre a.w.points.now a.gains.now (tt {0}) _ q _ c.in_default.is c.if-w-eq0.false _ _ _ _ c.keyed.ensures

@@ -6,7 +6,7 @@ use Rattle.keys.proofs.InKey.{sized}
 use Rattle.keys.proofs.InKey as inKey
 use Rattle.layout.proofs.RoomLists.{depth_is}
 use Rattle.layout.proofs.QuestionsAccepted.{accepted}
-use Rattle.selector.proofs.call.RoomKey.has_z.Goals as goal
+use Rattle.selector.proofs.room_key.RoomKey.has_z.Goals as goal
 
 pub returns : goal.returns
 returns c =
