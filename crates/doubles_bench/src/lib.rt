@@ -1,7 +1,8 @@
 // The loops that tools/bench time: each function of `doubles` over a slice, exported. They promise nothing.
 #![tactic(auto)]
 
-// The sum of f over v.
+// The sum of f over v. Each caller makes a closure: where a function of another crate stood there by its
+// name, its proof did not find that crate's contract.
 fn sum_of<F: Fn(f64) -> f64>(v: &[f64], f: F) -> f64
     requires { F.IsAlwaysCallable f }
 {

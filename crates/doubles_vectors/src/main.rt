@@ -5,11 +5,9 @@
 #![tactic(auto)]
 
 use record_io::Records;
+use replay::Lettered;
 use std::io;
 use std::io::{BufReader, BufWriter, Write};
-
-// A letter, a space, 16 digits and a line feed.
-const LINE: usize = 19;
 
 // The pattern of a function of a double: floor, sqrt, sine, cosine and the approximations.
 fn of_double(letter: u8, x: f64) -> u64 {
@@ -24,7 +22,8 @@ fn of_double(letter: u8, x: f64) -> u64 {
     })
 }
 
-// A letter is matched where its function is called, and goes nowhere else.
+// A letter is matched where its function is called, and goes nowhere else. Letters with no meaning of
+// their own act as k.
 fn answer(letter: u8, bits: u64) -> u64 {
     match letter {
         b'p' => doubles::bits_of(doubles::pow2(bits.cast_signed())),
@@ -36,18 +35,17 @@ fn answer(letter: u8, bits: u64) -> u64 {
     }
 }
 
-fn put<W: Write>(out: &mut W, letter: u8, bits: u64) -> io::Result<()> {
-    out.write_all(&[letter, b' '])?;
+// Not by `replay::Bits`: some answers are whole numbers.
+fn step<W: Write>(out: &mut W, line: Lettered) -> io::Result<()> {
+    let bits = answer(line.letter, line.value);
+    out.write_all(&[line.letter, b' '])?;
     writeln!(out, "{bits:016x}")
 }
 
+// As in the other programs: one main for all would take each one's state and its step.
 fn main(rt: HostRuntime) -> io::Result<()> {
     let input = BufReader::new(rt.alloc(), rt.stdin())?;
     let mut out = BufWriter::new(rt.alloc(), io::writer(&rt))?;
-    for line in Records::<_, LINE>::new(input) {
-        let line = line?;
-        let letter = line[0];
-        put(&mut out, letter, answer(letter, replay::hex(&line, 2)))?;
-    }
+    Records::new(input).try_for_each(|line| step(&mut out, Lettered::from(line?)))?;
     out.flush()
 }

@@ -13,24 +13,14 @@
 
 use extent::{Extent, Reading};
 use record_io::Records;
+use replay::{Bits, Lettered};
 use std::io;
 use std::io::{BufReader, BufWriter, Write};
-
-// A letter, a space, 16 digits and a line feed.
-const LINE: usize = 19;
-
-fn put<W: Write>(out: &mut W, x: f64) -> io::Result<()> {
-    let bits = doubles::bits_of(x);
-    writeln!(out, "{bits:016x}")
-}
 
 fn read<W: Write>(out: &mut W, e: Extent) -> io::Result<()> {
     match extent::read_extent(e) {
         Err(no) => writeln!(out, "{no}"),
-        Ok(Reading { mean, radius }) => {
-            write!(out, "{mean} ")?;
-            put(out, radius)
-        }
+        Ok(Reading { mean, radius }) => writeln!(out, "{mean} {}", Bits(radius)),
     }
 }
 
@@ -58,44 +48,36 @@ fn put_halves<W: Write>(out: &mut W, from: u64) -> io::Result<()> {
 }
 
 // One command; a letter below x that has no other meaning tells the kernel.
-fn step<W: Write>(out: &mut W, e: &mut Extent, letter: u8, n: u64) -> io::Result<()> {
-    let v = doubles::of_bits(n);
-    match letter {
-        b'r' => read(out, *e),
-        b'h' => put_halves(out, n),
-        b'd' => put(out, extent::extent_radius(v)),
-        b'e' => put(out, extent::shaping_exponent(v)),
-        b's' => put(out, extent::shaped(e.x, v)),
-        _ if letter < b'x' => {
-            let kernel = extent::compact_quartic_kernel(e.x, e.y, e.z, n == 1);
-            put(out, kernel)
-        }
+fn step<W: Write>(out: &mut W, e: &mut Extent, line: Lettered) -> io::Result<()> {
+    let v = doubles::of_bits(line.value);
+    let told = match line.letter {
+        b'r' => return read(out, *e),
+        b'h' => return put_halves(out, line.value),
+        b'd' => extent::extent_radius(v),
+        b'e' => extent::shaping_exponent(v),
+        b's' => extent::shaped(e.x, v),
         b'x' => {
             e.x = v;
-            Ok(())
+            return Ok(());
         }
         b'y' => {
             e.y = v;
-            Ok(())
+            return Ok(());
         }
-        _ => {
+        letter if b'x' < letter => {
             e.z = v;
-            Ok(())
+            return Ok(());
         }
-    }
+        _ => extent::compact_quartic_kernel(e.x, e.y, e.z, line.value == 1),
+    };
+    writeln!(out, "{}", Bits(told))
 }
 
+// As in the other programs: one main for all would take each one's state and its step.
 fn main(rt: HostRuntime) -> io::Result<()> {
     let input = BufReader::new(rt.alloc(), rt.stdin())?;
     let mut out = BufWriter::new(rt.alloc(), io::writer(&rt))?;
-    let mut e = Extent {
-        x: 0.0,
-        y: 0.0,
-        z: 0.0,
-    };
-    for line in Records::<_, LINE>::new(input) {
-        let line = line?;
-        step(&mut out, &mut e, line[0], replay::hex(&line, 2))?;
-    }
+    let mut e = Extent::default();
+    Records::new(input).try_for_each(|line| step(&mut out, &mut e, Lettered::from(line?)))?;
     out.flush()
 }

@@ -16,17 +16,15 @@
 #![tactic(auto)]
 
 use extent::{Extent, Reading};
-use layout::{Centre, Layout};
+use field::STORE;
+use layout::Centre;
 use record_io::Records;
-use replay::Room;
+use replay::{Bits, Command, Room, moved};
 use std::io;
 use std::io::{BufReader, BufWriter, Write};
 
-// Three digits, a space, 16 digits and a line feed.
-const LINE: usize = 21;
-
-// What a projection brings, all 24 point gains; the next one is put at `count`. A number of the store
-// is set at `index`.
+// What a projection brings, all 24 point gains, in fixed memory; the next one is put at `count`. A number
+// of the store is set at `index`.
 #[derive(Clone, Copy)]
 pub struct Object {
     pub extent: Extent,
@@ -40,16 +38,8 @@ pub struct Object {
 impl Object {
     fn new() -> Object {
         Object {
-            extent: Extent {
-                x: 0.0,
-                y: 0.0,
-                z: 0.0,
-            },
-            centre: Centre {
-                x: 0.0,
-                y: 0.0,
-                z: 0.0,
-            },
+            extent: Extent::default(),
+            centre: Centre::default(),
             points: [0.0; 24],
             count: 0,
             index: 0,
@@ -57,183 +47,153 @@ impl Object {
         }
     }
 
-    // One point gain more, where there is room for it.
+    // One point gain more, where there is room for it. Not by the `Points` of `rugvocse`: a projection
+    // gets all 24 of these, whatever their count, and one too many is passed over.
     fn add_point(&mut self, x: f64) {
-        let at = self.count;
-        if at < 24 {
-            self.points[at] = x;
-            self.count = at + 1;
+        if let Some(point) = self.points.get_mut(self.count) {
+            *point = x;
+            self.count += 1;
         }
     }
 }
 
-fn put<W: Write>(out: &mut W, x: f64) -> io::Result<()> {
-    let bits = doubles::bits_of(x);
-    writeln!(out, "{bits:016x}")
-}
-
-// A hash over `count` doubles from `from` on; 0 where the store has no such part.
-fn hash(store: &[f64], from: usize, count: usize) -> u64 {
-    store
-        .get(from..)
-        .and_then(|rest| rest.get(..count))
-        .map_or(0, |part| replay::hash_doubles(part))
-}
-
-// Fills place p with the field of the layout's room.
-fn fill(store: &mut [f64], p: usize, l: Layout) -> bool {
-    field::fill_place(store, p, &keys::pack(l, 0))
-}
-
-fn fill_often(store: &mut [f64], l: Layout, count: u64) {
-    for _ in 0..count {
-        fill(store, 0, l);
-    }
-}
-
-fn gains_of<W: Write>(
-    out: &mut W,
-    store: &[f64],
-    l: Layout,
-    o: &Object,
-    p: usize,
-    mean: u64,
-    radius: f64,
-) -> io::Result<()> {
-    let mut gains = [7.0f64; 24];
-    let n = channels::active_count(l);
-    let is_deep = 1 < l.depth;
-    let is_done = gains::project(
-        &mut gains, store, p, n, is_deep, mean, radius, o.centre, &o.points,
-    );
-    if !is_done {
-        return out.write_all(b"refused\n");
-    }
-    for gain in &gains[..n.min(24)] {
-        put(out, *gain)?;
-    }
-    Ok(())
-}
-
-fn project<W: Write>(
-    out: &mut W,
-    store: &[f64],
-    l: Layout,
-    o: &Object,
-    p: usize,
-) -> io::Result<()> {
-    match extent::read_extent(o.extent) {
-        Err(no) => writeln!(out, "{no}"),
-        Ok(Reading { mean, radius }) => {
-            write!(out, "{mean} ")?;
-            put(out, radius)?;
-            gains_of(out, store, l, o, p, mean, radius)
-        }
-    }
-}
-
-// The centre, a little to the right every other turn.
-fn moved(c: Centre, turn: u64) -> Centre {
-    if turn % 2 == 0 {
-        c
-    } else {
-        Centre {
-            x: c.x + 0.0078125,
-            ..c
-        }
-    }
-}
-
-fn project_often(store: &[f64], l: Layout, o: &Object, count: u64) {
-    let Ok(Reading { mean, radius }) = extent::read_extent(o.extent) else {
-        return;
-    };
-    let n = channels::active_count(l);
-    let is_deep = 1 < l.depth;
-    let mut gains = [0.0f64; 24];
-    for turn in 0..count {
-        let c = moved(o.centre, turn);
-        gains::project(&mut gains, store, 0, n, is_deep, mean, radius, c, &o.points);
-    }
-}
-
-// What the lines so far have set.
-#[derive(Clone, Copy)]
-pub struct Setting {
+// What the lines so far have set, and the store.
+#[derive(Drop)]
+pub struct Setting<'a> {
+    pub store: &'a mut [f64],
     pub room: Room,
     pub object: Object,
 }
 
-// One command.
-fn step<W: Write>(
-    out: &mut W,
-    store: &mut [f64],
-    s: &mut Setting,
-    k: u64,
-    v: u64,
-) -> io::Result<()> {
-    let x = doubles::of_bits(v);
-    let l = s.room.layout;
-    let o = &mut s.object;
-    match k {
-        0..=909 => s.room.obey(k, v),
-        910 => store.fill(x),
-        920 => {
-            let filled = u64::from(fill(store, v as usize, l));
-            return writeln!(out, "{filled}");
+impl Setting<'_> {
+    // A hash over `count` doubles from `from` on; 0 where the store has no such part.
+    fn hash(&self, from: usize, count: usize) -> u64 {
+        self.store
+            .get(from..)
+            .and_then(|rest| rest.get(..count))
+            .map_or(0, |part| replay::hash_doubles(part))
+    }
+
+    // A number of the store; 0 where it has no such one.
+    fn number(&self, i: usize) -> f64 {
+        self.store.get(i).copied().unwrap_or(0.0)
+    }
+
+    fn set_number(&mut self, x: f64) {
+        if let Some(number) = self.store.get_mut(self.object.index) {
+            *number = x;
         }
-        921 => {
-            let from = v / 0x1_0000_0000;
-            let count = v % 0x1_0000_0000;
-            let h = hash(store, from as usize, count as usize);
-            return writeln!(out, "{h}");
+    }
+
+    // Fills place p with the field of the layout's room.
+    fn fill(&mut self, p: usize) -> bool {
+        field::fill_place(self.store, p, &replay::key_of(self.room.layout))
+    }
+
+    fn fill_often(&mut self, count: u64) {
+        for _ in 0..count {
+            self.fill(0);
         }
-        923 => fill_often(store, l, v),
-        911..=929 => {
-            let bits = store
-                .get(v as usize)
-                .map_or(0, |number| doubles::bits_of(*number));
-            return writeln!(out, "{bits:016x}");
+    }
+
+    // The gains of n channels over place p; false where it is refused.
+    fn project(&self, gains: &mut [f64; 24], n: usize, p: usize, r: Reading, c: Centre) -> bool {
+        let is_deep = 1 < self.room.layout.depth;
+        let points = &self.object.points;
+        gains::project(gains, self.store, p, n, is_deep, r, c, points)
+    }
+
+    fn tell_gains<W: Write>(&self, out: &mut W, p: usize, reading: Reading) -> io::Result<()> {
+        let n = channels::active_count(self.room.layout);
+        let mut gains = [7.0f64; 24];
+        if !self.project(&mut gains, n, p, reading, self.object.centre) {
+            return out.write_all(b"refused\n");
         }
-        930 => o.extent.x = x,
-        931 => o.extent.y = x,
-        932 => o.extent.z = x,
-        933 => o.centre.x = x,
-        934 => o.centre.y = x,
-        935 => o.centre.z = x,
-        936 => o.add_point(x),
-        937 => o.count = 0,
-        938 => o.index = v as usize,
-        939 => {
-            if let Some(number) = store.get_mut(o.index) {
-                *number = x;
+        for gain in &gains[..n] {
+            let bits = Bits(*gain);
+            writeln!(out, "{bits}")?;
+        }
+        Ok(())
+    }
+
+    fn tell_projection<W: Write>(&self, out: &mut W, p: usize) -> io::Result<()> {
+        match extent::read_extent(self.object.extent) {
+            Err(no) => writeln!(out, "{no}"),
+            Ok(reading) => {
+                let mean = reading.mean;
+                writeln!(out, "{mean} {}", Bits(reading.radius))?;
+                self.tell_gains(out, p, reading)
             }
         }
-        940 => return project(out, store, l, o, v as usize),
-        942 => o.radius = x,
-        943 => return gains_of(out, store, l, o, v as usize, 1, o.radius),
-        _ => project_often(store, l, o, v),
     }
-    Ok(())
+
+    fn project_often(&self, count: u64) {
+        let Ok(reading) = extent::read_extent(self.object.extent) else {
+            return;
+        };
+        let n = channels::active_count(self.room.layout);
+        let mut gains = [0.0f64; 24];
+        for turn in 0..count {
+            let centre = moved(self.object.centre, turn);
+            self.project(&mut gains, n, 0, reading, centre);
+        }
+    }
+
+    // One command. Numbers with no meaning of their own act up to 909 as 905, up to 929 as 922, above as 941.
+    fn step<W: Write>(&mut self, out: &mut W, command: Command) -> io::Result<()> {
+        let Command { code, value: v } = command;
+        let x = doubles::of_bits(v);
+        let o = &mut self.object;
+        match code {
+            0..=909 => self.room.obey(command),
+            910 => self.store.fill(x),
+            920 => {
+                let filled = u64::from(self.fill(v as usize));
+                return writeln!(out, "{filled}");
+            }
+            921 => {
+                let from = v / 0x1_0000_0000;
+                let count = v % 0x1_0000_0000;
+                let h = self.hash(from as usize, count as usize);
+                return writeln!(out, "{h}");
+            }
+            923 => self.fill_often(v),
+            911..=929 => {
+                let bits = Bits(self.number(v as usize));
+                return writeln!(out, "{bits}");
+            }
+            930 => o.extent.x = x,
+            931 => o.extent.y = x,
+            932 => o.extent.z = x,
+            933 => o.centre.x = x,
+            934 => o.centre.y = x,
+            935 => o.centre.z = x,
+            936 => o.add_point(x),
+            937 => o.count = 0,
+            938 => o.index = v as usize,
+            939 => self.set_number(x),
+            940 => return self.tell_projection(out, v as usize),
+            942 => o.radius = x,
+            943 => {
+                let radius = o.radius;
+                return self.tell_gains(out, v as usize, Reading { mean: 1, radius });
+            }
+            _ => self.project_often(v),
+        }
+        Ok(())
+    }
 }
 
+// As in the other programs: one main for all would take each one's state and its step.
 fn main(rt: HostRuntime) -> io::Result<()> {
     let input = BufReader::new(rt.alloc(), rt.stdin())?;
     let mut out = BufWriter::new(rt.alloc(), io::writer(&rt))?;
-    let mut store = [0.0f64; 285312];
-    let mut s = Setting {
+    let mut store = [0.0f64; STORE];
+    let mut setting = Setting {
+        store: &mut store,
         room: Room::new(),
         object: Object::new(),
     };
-    for line in Records::<_, LINE>::new(input) {
-        let line = line?;
-        step(
-            &mut out,
-            &mut store,
-            &mut s,
-            replay::three(&line),
-            replay::hex(&line, 4),
-        )?;
-    }
+    Records::new(input).try_for_each(|line| setting.step(&mut out, Command::from(line?)))?;
     out.flush()
 }

@@ -14,12 +14,11 @@
 
 use layout::{Anchor, Channel, Layout};
 use record_io::Records;
+use replay::Command;
 use std::io;
 use std::io::{BufReader, BufWriter, Write};
 
-// Three digits, a space, 16 digits and a line feed.
-const LINE: usize = 21;
-
+// Not `replay::Room`: the numbers of these scripts mean other commands, and the stored input keeps them.
 #[derive(Clone, Copy)]
 pub struct State {
     pub now: Layout,
@@ -27,7 +26,8 @@ pub struct State {
     pub name: u64,
 }
 
-// Sets field i of a layout: at even i the first one of an entry, at odd i what stands beside it.
+// Sets field i of a layout, by the number that the stored input gives it: at even i the first one of an
+// entry, at odd i what stands beside it. Four arms: the fields have different types.
 fn set(l: &mut Layout, i: usize, v: u64) {
     let is_first = i % 2 == 0;
     let x = doubles::of_bits(v);
@@ -39,8 +39,7 @@ fn set(l: &mut Layout, i: usize, v: u64) {
             if is_first {
                 c.name = v;
             } else {
-                c.enabled = v % 2 == 1;
-                c.lfe = v / 2 % 2 == 1;
+                *c = replay::channel(c.name, v);
             }
         }
         50..=57 => {
@@ -72,10 +71,9 @@ fn set(l: &mut Layout, i: usize, v: u64) {
 }
 
 fn ask<W: Write>(out: &mut W, l: Layout) -> io::Result<()> {
-    let no = match questions::first_no(&keys::pack(l, 0)) {
-        Ok(()) => 0,
-        Err(no) => no.number(),
-    };
+    let no = questions::first_no(&replay::key_of(l))
+        .err()
+        .map_or(0, |no| no.number());
     let active = channels::active_count(l);
     let rows = layout::row_total(l);
     let anchors = layout::anchor_total(l);
@@ -83,7 +81,7 @@ fn ask<W: Write>(out: &mut W, l: Layout) -> io::Result<()> {
 }
 
 fn compare<W: Write>(out: &mut W, a: Layout, b: Layout) -> io::Result<()> {
-    let word = if keys::pack(a, 0) == keys::pack(b, 0) {
+    let word = if replay::key_of(a) == replay::key_of(b) {
         "same"
     } else {
         "other"
@@ -94,15 +92,16 @@ fn compare<W: Write>(out: &mut W, a: Layout, b: Layout) -> io::Result<()> {
 fn place<W: Write>(out: &mut W, l: Layout, name: u64) -> io::Result<()> {
     let mut names = [0u64; 24];
     let n = channels::active_names(l, &mut names);
-    let at = channels::index_of(&names[..n.min(24)], name).unwrap_or(n);
+    let at = channels::index_of(&names[..n], name).unwrap_or(n);
     writeln!(out, "{at}")
 }
 
-// One command.
-fn step<W: Write>(out: &mut W, s: &mut State, k: u64, v: u64) -> io::Result<()> {
+// One command. Numbers with no meaning of their own act up to 904 as 904, up to 919 as 910, above as 922.
+fn step<W: Write>(out: &mut W, s: &mut State, command: Command) -> io::Result<()> {
+    let Command { code, value: v } = command;
     let x = doubles::of_bits(v);
-    match k {
-        0..=153 => set(&mut s.now, k as usize, v),
+    match code {
+        0..=153 => set(&mut s.now, code as usize, v),
         900 => s.now = Layout::new(),
         901 => {
             s.now = s.now.with_channel(Channel {
@@ -123,6 +122,7 @@ fn step<W: Write>(out: &mut W, s: &mut State, k: u64, v: u64) -> io::Result<()> 
     Ok(())
 }
 
+// As in the other programs: one main for all would take each one's state and its step.
 fn main(rt: HostRuntime) -> io::Result<()> {
     let input = BufReader::new(rt.alloc(), rt.stdin())?;
     let mut out = BufWriter::new(rt.alloc(), io::writer(&rt))?;
@@ -131,14 +131,6 @@ fn main(rt: HostRuntime) -> io::Result<()> {
         aside: Layout::new(),
         name: 0,
     };
-    for line in Records::<_, LINE>::new(input) {
-        let line = line?;
-        step(
-            &mut out,
-            &mut s,
-            replay::three(&line),
-            replay::hex(&line, 4),
-        )?;
-    }
+    Records::new(input).try_for_each(|line| step(&mut out, &mut s, Command::from(line?)))?;
     out.flush()
 }

@@ -17,7 +17,7 @@ pub fn read_full<R: Read>(input: &mut R, buffer: &mut [u8]) -> io::Result<usize>
     ensures short { IfOk result (λ n. n < length buffer.new → IsAtEnd (R.remaining input.new)) }
 {
     let mut done = 0;
-    // By what each read gives, not one by one.
+    // By what each read gives; `read_exact` would not tell how many bytes there were before the end.
     while done < buffer.len() {
         let n = input.read(&mut buffer[done..])?;
         if n == 0 {
@@ -32,7 +32,7 @@ pub fn read_full<R: Read>(input: &mut R, buffer: &mut [u8]) -> io::Result<usize>
 const MOST: u64 = 1_000_000;
 
 // Records of N bytes each, one after another, at most a million; a last one that is cut short is
-// passed over.
+// passed over. Counted, since an iterator has to show that it ends, and an input need not end.
 #[derive(Drop)]
 pub struct Records<R, const N: usize> {
     input: R,

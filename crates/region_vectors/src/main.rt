@@ -12,15 +12,13 @@
 #![tactic(auto)]
 
 use classes::BedMatch;
+use keys::{ANCHOR_NAMES, DEPTH, LAYER_COUNTS, ROW_COUNTS, USED, XS, YS, ZS};
 use layout::Layout;
 use record_io::Records;
-use region::{RegionHorizontalState, RegionSemanticState, RegionTopBottomState};
-use replay::{Room, mixed};
+use region::{RegionHorizontalState, RegionSemanticState};
+use replay::{Command, Room, mixed};
 use std::io;
 use std::io::{BufReader, BufWriter, Write};
-
-// Three digits, a space, 16 digits and a line feed.
-const LINE: usize = 21;
 
 // The horizontal states, each at its number.
 const HORIZONTAL: [RegionHorizontalState; 6] = [
@@ -75,20 +73,16 @@ fn hash_pairs(a: &[u64], b: &[u64]) -> u64 {
     a.iter().zip(b).fold(0, |h, (x, y)| mixed(mixed(h, *x), *y))
 }
 
-// The sum of counts; 24 where it is more.
-fn sum(counts: &[u64]) -> usize {
-    counts
-        .iter()
-        .fold(0, |s, c| layout::next_start(s, *c as usize))
-}
-
 fn tell_room<W: Write>(out: &mut W, key: &[u64; 156]) -> io::Result<()> {
-    let depth = key[153];
-    let rows = sum(&key[48..52]);
-    let anchors = sum(&key[52..76]);
-    let layers_hash = hash_pairs(&key[100..104], &key[48..52]);
-    let rows_hash = hash_pairs(&key[104..128], &key[52..76]);
-    let anchors_hash = hash_pairs(&key[76..100], &key[128..152]);
+    let layer_counts = &key[LAYER_COUNTS..ROW_COUNTS];
+    let row_counts = &key[ROW_COUNTS..ANCHOR_NAMES];
+    let names = &key[ANCHOR_NAMES..ZS];
+    let depth = key[DEPTH];
+    let rows = layout::reach(layer_counts, 0);
+    let anchors = layout::reach(row_counts, 0);
+    let layers_hash = hash_pairs(&key[ZS..YS], layer_counts);
+    let rows_hash = hash_pairs(&key[YS..XS], row_counts);
+    let anchors_hash = hash_pairs(names, &key[XS..USED]);
     writeln!(
         out,
         "{depth} {rows} {anchors} {layers_hash} {rows_hash} {anchors_hash}"
@@ -96,27 +90,23 @@ fn tell_room<W: Write>(out: &mut W, key: &[u64; 156]) -> io::Result<()> {
 }
 
 fn state_of(v: u64) -> RegionSemanticState {
-    let top = if v % 2 == 1 {
-        RegionTopBottomState::Include
-    } else {
-        RegionTopBottomState::Exclude
-    };
     RegionSemanticState {
         horizontal: HORIZONTAL[(v / 2).min(5) as usize],
-        top,
+        top: (v % 2 == 1).into(),
     }
 }
 
 // The numbers of a layout. Its heights, the y of its rows and the x of its anchors are as they are:
 // a key has -0 as 0.
 fn key_of(l: Layout) -> [u64; 156] {
-    let mut key = keys::pack(l, 0);
+    let mut key = replay::key_of(l);
+    // By index: after a write through a part's slice the proof did not find the key's length.
     for i in 0..4 {
-        key[100 + i] = doubles::bits_of(l.layers[i].z);
+        key[ZS + i] = doubles::bits_of(l.layers[i].z);
     }
     for i in 0..24 {
-        key[104 + i] = doubles::bits_of(l.rows[i].y);
-        key[128 + i] = doubles::bits_of(l.anchors[i].x);
+        key[YS + i] = doubles::bits_of(l.rows[i].y);
+        key[XS + i] = doubles::bits_of(l.anchors[i].x);
     }
     key
 }
@@ -132,31 +122,25 @@ fn tell_selected<W: Write>(out: &mut W, l: Layout, v: u64) -> io::Result<()> {
     }
 }
 
-// One command.
-fn step<W: Write>(out: &mut W, room: &mut Room, k: u64, v: u64) -> io::Result<()> {
-    match k {
+// One command. Numbers with no meaning of their own act up to 909 as 905, above as 912.
+fn step<W: Write>(out: &mut W, room: &mut Room, command: Command) -> io::Result<()> {
+    let Command { code, value } = command;
+    match code {
         0..=909 => {
-            room.obey(k, v);
+            room.obey(command);
             Ok(())
         }
-        910 => tell_flags(out, v),
-        911 => tell_name(out, v),
-        _ => tell_selected(out, room.layout, v),
+        910 => tell_flags(out, value),
+        911 => tell_name(out, value),
+        _ => tell_selected(out, room.layout, value),
     }
 }
 
+// As in the other programs: one main for all would take each one's state and its step.
 fn main(rt: HostRuntime) -> io::Result<()> {
     let input = BufReader::new(rt.alloc(), rt.stdin())?;
     let mut out = BufWriter::new(rt.alloc(), io::writer(&rt))?;
     let mut room = Room::new();
-    for line in Records::<_, LINE>::new(input) {
-        let line = line?;
-        step(
-            &mut out,
-            &mut room,
-            replay::three(&line),
-            replay::hex(&line, 4),
-        )?;
-    }
+    Records::new(input).try_for_each(|line| step(&mut out, &mut room, Command::from(line?)))?;
     out.flush()
 }

@@ -1,6 +1,6 @@
 -- Hexadecimal digits. Definitions only.
-use Rattle.std.specs.Prelude.{ℕ, ◌+◌, ◌*◌, ◌%◌, ◌^◌, cond, List, ltb, leb, length, get_or, reverse}
-use Rattle.std.specs.List.{fold, slice_range}
+use Rattle.std.specs.Prelude.{ℕ, ◌+◌, ◌*◌, ◌%◌, ◌^◌, cond, List, ltb, leb, length, take, get_or, reverse}
+use Rattle.std.specs.List.{fold}
 
 -- the value of a digit, of either case
 abbrev pub digit_of : ℕ → ℕ
@@ -10,9 +10,9 @@ digit_of c = cond (ltb c 58) (c % 16) ((c + 9) % 16)
 abbrev pub hex_more : ℕ → ℕ → ℕ
 hex_more n c = n % 2 ^ 60 * 16 + digit_of c
 
--- the 16 digits from a place on; 0 where the text has no 16 from there on
-abbrev pub hex_of : List ℕ → ℕ → ℕ
-hex_of text from = cond (leb (from + 16) (length text)) (fold hex_more 0 (slice_range text from (from + 16))) 0
+-- the first 16 digits; 0 where there are fewer
+abbrev pub hex_of : List ℕ → ℕ
+hex_of digits = cond (leb 16 (length digits)) (fold hex_more 0 (take 16 digits)) 0
 
 -- the three digits in front, each a tenth of the one before; 0 where the text has fewer
 abbrev pub three_of : List ℕ → ℕ
@@ -23,9 +23,5 @@ abbrev pub packed_more : ℕ → ℕ → ℕ
 packed_more n c = n % 2 ^ 56 * 256 + c
 
 -- bytes as one number, the first lowest; the lowest 64 bits of it
-abbrev pub packed_all : List ℕ → ℕ
-packed_all cs = fold packed_more 0 (reverse cs)
-
--- the bytes from a place to another; 0 where the text ends before
-abbrev pub packed_of : List ℕ → ℕ → ℕ → ℕ
-packed_of text from to = cond (leb to (length text)) (packed_all (slice_range text from to)) 0
+abbrev pub packed_of : List ℕ → ℕ
+packed_of bytes = fold packed_more 0 (reverse bytes)

@@ -2,11 +2,17 @@
 ghost use Rattle.std.specs.Prelude.{◌≡◌};
 ghost use Rattle.replay.specs.Hash.{mixed_half, mixed_of, hash_of};
 
+// The largest prime below 2 ^ 32: a hash is a number modulo it.
+const MODULUS: u64 = 4294967291;
+
+// What a hash is multiplied by where half a word is added.
+const FACTOR: u64 = 65599;
+
 // A hash and half a word more.
 fn mixed_half(h: u64, half: u64) -> u64
     ensures { result ≡ mixed_half h half }
 {
-    (h % 4294967291 * 65599 + half % 0x1_0000_0000) % 4294967291
+    (h % MODULUS * FACTOR + half % 0x1_0000_0000) % MODULUS
 }
 
 // A hash and a word more: its low half and then its high half.

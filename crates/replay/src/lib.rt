@@ -1,17 +1,25 @@
-// What the programs that replay answers share: numbers read from a line of text, the layout that
-// commands make, and a hash.
+// What the programs that replay answers share: commands and numbers read from a line of text, the layout
+// that commands make, a centre that moves, a double's pattern as text, and a hash.
 #![tactic(auto)]
 
 ghost use Rattle.std.specs.Prelude.{◌≡◌, ◌<◌};
 ghost use Rattle.replay.specs.Hex.{digit_of, hex_of, three_of, packed_of};
 
+mod bits;
+mod centre;
+mod command;
 mod hash;
+mod key;
 mod room;
 
+pub use bits::Bits;
+pub use centre::moved;
+pub use command::{Command, Lettered};
 pub use hash::{hash_doubles, mixed};
-pub use room::Room;
+pub use key::key_of;
+pub use room::{Room, channel};
 
-// The value of a hexadecimal digit, of either case.
+// The value of a hexadecimal digit, of either case; any other byte has one too, where `to_digit` has none.
 pub fn digit(c: u8) -> u64
     ensures value { result ≡ digit_of c }
     ensures small { result < 16 }
@@ -20,19 +28,19 @@ pub fn digit(c: u8) -> u64
     if d < 58 { d % 16 } else { (d + 9) % 16 }
 }
 
-// The number that the 16 hexadecimal digits from `from` on stand for; 0 where the text has no 16 from there on.
-pub fn hex(text: &[u8], from: usize) -> u64
-    ensures { result ≡ hex_of text.now from }
+// The number that the first 16 hexadecimal digits stand for; 0 where there are fewer, and no Option: a
+// public function that could not fail still can't, and all callers have 16.
+pub fn hex(digits: &[u8]) -> u64
+    ensures { result ≡ hex_of digits.now }
 {
-    if text.len() < 16 || text.len() - 16 < from {
-        return 0;
-    }
-    text[from..from + 16]
-        .iter()
-        .fold(0, |n, c| n % 0x1000_0000_0000_0000 * 16 + digit(*c))
+    digits.get(..16).map_or(0, |first| {
+        first
+            .iter()
+            .fold(0, |n, c| n % 0x1000_0000_0000_0000 * 16 + digit(*c))
+    })
 }
 
-// The number that the three digits in front stand for; 0 where the text has fewer.
+// The number that the three digits in front stand for; 0 where the text has fewer, as for `hex`.
 pub fn three(text: &[u8]) -> u64
     ensures { result ≡ three_of text.now }
 {
@@ -42,14 +50,11 @@ pub fn three(text: &[u8]) -> u64
     }
 }
 
-// The bytes from `from` to `to` as a number, the first lowest; 0 where the text ends before `to`.
-pub fn packed(text: &[u8], from: usize, to: usize) -> u64
-    ensures { result ≡ packed_of text.now from to }
+// The bytes as a number, the first lowest: the lowest 64 bits of it. `from_le_bytes` takes just eight.
+pub fn packed(bytes: &[u8]) -> u64
+    ensures { result ≡ packed_of bytes.now }
 {
-    if text.len() < to || to < from {
-        return 0;
-    }
-    text[from..to]
+    bytes
         .iter()
         .rev()
         .fold(0, |n, c| n % 0x100_0000_0000_0000 * 256 + u64::from(*c))

@@ -3,7 +3,9 @@ use crate::numbers::{double, name, whole};
 use crate::scene::Points;
 use crate::text::{Tokens, word};
 use extent::Extent;
+use field::STORE;
 use layout::{Anchor, Centre, Channel};
+use selector::Ring;
 
 #[derive(Clone, Copy)]
 pub enum Command {
@@ -21,7 +23,7 @@ pub enum Command {
     Store(usize),
     Fill(f64),
     Fresh,
-    State { count: usize, oldest: usize },
+    State(Ring),
     Gains,
     Show,
 }
@@ -37,8 +39,7 @@ fn doubles<const N: usize>(tokens: &mut Tokens<'_>) -> Option<[f64; N]> {
 
 // A whole number of at most so much.
 fn at_most(tokens: &mut Tokens<'_>, most: u64) -> Option<u64> {
-    let n = whole(tokens.next()?)?;
-    if n <= most { Some(n) } else { None }
+    whole(tokens.next()?).filter(|n| *n <= most)
 }
 
 fn channel(tokens: &mut Tokens<'_>) -> Option<Channel> {
@@ -56,17 +57,15 @@ fn anchor(tokens: &mut Tokens<'_>) -> Option<Anchor> {
 
 // Six letters, T or F.
 fn zones(token: &[u8]) -> Option<[bool; 6]> {
-    if token.len() == 6 && token.iter().all(|c| matches!(*c, b'T' | b'F')) {
-        Some(std::array::from_fn(|i| token[i] == b'T'))
-    } else {
-        None
-    }
+    let letters: [u8; 6] = token.try_into().ok()?;
+    let is_known = letters.iter().all(|c| matches!(*c, b'T' | b'F'));
+    is_known.then(|| letters.map(|c| c == b'T'))
 }
 
 // At most 32 doubles, all that are left.
 fn points(tokens: &mut Tokens<'_>) -> Option<Points> {
     let mut points = Points::new();
-    while let Some(token) = tokens.next() {
+    for token in tokens {
         points.push(double(token)?)?;
     }
     Some(points)
@@ -91,13 +90,13 @@ fn of_word(w: &[u8], tokens: &mut Tokens<'_>) -> Option<Command> {
         }
         b"points" => Command::Points(points(tokens)?),
         b"slots" => Command::Slots(at_most(tokens, 32)? as usize),
-        b"store" => Command::Store(at_most(tokens, 285312)? as usize),
+        b"store" => Command::Store(at_most(tokens, STORE as u64)? as usize),
         b"fill" => Command::Fill(double(tokens.next()?)?),
         b"fresh" => Command::Fresh,
         b"state" => {
             let count = whole(tokens.next()?)? as usize;
             let oldest = whole(tokens.next()?)? as usize;
-            Command::State { count, oldest }
+            Command::State(Ring { count, oldest })
         }
         b"gains" => Command::Gains,
         b"show" => Command::Show,
@@ -108,7 +107,7 @@ fn of_word(w: &[u8], tokens: &mut Tokens<'_>) -> Option<Command> {
 
 // The command that a first token and those behind it make.
 pub fn read(first: &[u8], mut tokens: Tokens<'_>) -> Option<Command> {
-    let command = of_word(word(first), &mut tokens)?;
+    let command = of_word(word(first)?, &mut tokens)?;
     tokens.end()?;
     Some(command)
 }

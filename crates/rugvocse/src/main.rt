@@ -7,6 +7,7 @@ mod print;
 mod scene;
 mod text;
 
+use field::STORE;
 use scene::{Failure, Scene};
 use std::alloc::Global;
 use std::io;
@@ -15,19 +16,19 @@ use std::io::{BufRead, BufReader, BufWriter, Read, Write};
 // The most bytes that a line has.
 const LONGEST: usize = 4000;
 
-// The next line without its line feed, or of a line that is too long its first bytes; false at the
-// end of the input.
-fn read_line<R: BufRead>(input: &mut R, line: &mut Vec<u8>) -> io::Result<bool> {
+// The next line without its line feed, or of a line that is too long its first bytes; nothing at the
+// end of the input. Not by an iterator: it would make a vector anew for each line, or lend its own.
+fn read_line<'a, R: BufRead>(input: &mut R, line: &'a mut Vec<u8>) -> io::Result<Option<&'a [u8]>> {
     line.clear();
     if input.take(LONGEST as u64 + 1).read_until(b'\n', line)? == 0 {
-        return Ok(false);
+        return Ok(None);
     }
     if line.last() == Some(&b'\n') {
         line.pop();
     } else if LONGEST < line.len() {
         input.skip_until(b'\n')?;
     }
-    Ok(true)
+    Ok(Some(line))
 }
 
 // Plays a script, each line where it ends.
@@ -37,14 +38,14 @@ fn run<R: BufRead, W: Write>(
     out: &mut W,
     store: &mut [f64],
 ) -> io::Result<()> {
-    let mut scene = Scene::new();
-    let mut line = Vec::new(alloc);
+    let mut scene = Scene::new(store);
+    let mut space = Vec::new(alloc);
     for number in 1..u64::MAX {
-        if !read_line(input, &mut line)? {
+        let Some(line) = read_line(input, &mut space)? else {
             break;
-        }
+        };
         let obeyed = if line.len() <= LONGEST {
-            scene.obey(out, store, &line)
+            scene.obey(out, line)
         } else {
             Err(Failure::Bad)
         };
@@ -60,6 +61,6 @@ fn run<R: BufRead, W: Write>(
 fn main(rt: HostRuntime) -> io::Result<()> {
     let mut input = BufReader::with_capacity(rt.alloc(), 65536, rt.stdin())?;
     let mut out = BufWriter::new(rt.alloc(), io::writer(&rt))?;
-    let mut store = [0.0f64; 285312];
+    let mut store = [0.0f64; STORE];
     run(rt.alloc(), &mut input, &mut out, &mut store)
 }

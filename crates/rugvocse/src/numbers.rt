@@ -1,14 +1,10 @@
 // Numbers and names of a script.
 
 fn digit(c: u8) -> Option<u64> {
-    if c.is_ascii_digit() {
-        Some(u64::from(c - b'0'))
-    } else {
-        None
-    }
+    char::from(c).to_digit(10).map(u64::from)
 }
 
-// A number with decimal digits behind it, up to 2 ^ 64 - 1.
+// A number with decimal digits behind it, up to 2 ^ 64 - 1. Not by `parse`, which takes a + in front.
 fn with_digits(number: u64, digits: &[u8]) -> Option<u64> {
     digits
         .iter()
@@ -25,16 +21,13 @@ pub fn whole(token: &[u8]) -> Option<u64> {
 
 // 16 hexadecimal digits.
 fn pattern(digits: &[u8]) -> Option<u64> {
-    if digits.len() == 16 && digits.iter().all(|c| c.is_ascii_hexdigit()) {
-        Some(replay::hex(digits, 0))
-    } else {
-        None
-    }
+    let is_pattern = digits.len() == 16 && digits.iter().all(|c| c.is_ascii_hexdigit());
+    is_pattern.then(|| replay::hex(digits))
 }
 
 // The digits before and after a point, at most 15: as a number over a power of ten.
 fn quotient(before: &[u8], after: &[u8]) -> Option<f64> {
-    if before.is_empty() || 15 < before.len() || 15 - before.len() < after.len() {
+    if before.is_empty() || 15 < before.len() + after.len() {
         return None;
     }
     let number = with_digits(with_digits(0, before)?, after)?;
@@ -69,7 +62,7 @@ pub fn name(token: &[u8]) -> Option<u64> {
     match token {
         [b'\\', digits @ ..] if n == 17 => pattern(digits),
         _ if 0 < n && n <= 8 && token.iter().all(|c| c.is_ascii_graphic()) => {
-            Some(replay::packed(token, 0, n))
+            Some(replay::packed(token))
         }
         _ => None,
     }

@@ -1,6 +1,8 @@
 // What a call and the selector are written as.
+use keys::EPOCH;
 use layout::Layout;
-use selector::{Gains, Outcome, Selector, Word};
+use replay::Bits;
+use selector::{Gains, Outcome, Ring, Selector};
 use std::io::Write;
 use std::{fmt, io};
 
@@ -21,7 +23,7 @@ impl fmt::Display for Decimal {
     }
 }
 
-// The bytes of a packed name.
+// The bytes of a packed name. Not by Display, which writes UTF-8: a name may be any bytes.
 fn name<W: Write>(out: &mut W, n: u64) -> io::Result<()> {
     let bytes = n.to_le_bytes();
     let unused = n.leading_zeros() / 8;
@@ -29,29 +31,19 @@ fn name<W: Write>(out: &mut W, n: u64) -> io::Result<()> {
 }
 
 fn gain<W: Write>(out: &mut W, n: u64, g: f64) -> io::Result<()> {
-    let bits = doubles::bits_of(g);
-    let decimal = Decimal(g);
     name(out, n)?;
-    writeln!(out, " {bits:016x} {decimal}")
+    writeln!(out, " {} {}", Bits(g), Decimal(g))
 }
 
-// Slots from `from` on that do not hold 7.
+// Slots from `from` on that do not hold 7, which stands in all of them before a call: a call is lent plain
+// doubles, and what it left is told by what stood there.
 fn slots<W: Write>(out: &mut W, v: &[f64], from: usize) -> io::Result<()> {
     for (i, x) in v.iter().enumerate().skip(from) {
         if *x != 7.0 {
-            let bits = doubles::bits_of(*x);
-            writeln!(out, "slot {i} {bits:016x}")?;
+            writeln!(out, "slot {i} {}", Bits(*x))?;
         }
     }
     Ok(())
-}
-
-fn text_of(w: Word) -> &'static str {
-    match w {
-        Word::Unused => "unused",
-        Word::Kept => "kept",
-        Word::Built => "built",
-    }
 }
 
 // What a call answered, over the slots that it was lent.
@@ -62,11 +54,10 @@ pub fn outcome<W: Write>(out: &mut W, o: Outcome, l: Layout, lent: &[f64]) -> io
             slots(out, lent, 0)
         }
         Ok(Gains { n, word }) => {
-            let text = text_of(word);
-            writeln!(out, "{text} {n}")?;
+            writeln!(out, "{word} {n}")?;
             let mut names = [0u64; 24];
             let active = channels::active_names(l, &mut names);
-            for (n, g) in names[..active.min(24)].iter().zip(lent) {
+            for (n, g) in names[..active].iter().zip(lent) {
                 gain(out, *n, *g)?;
             }
             slots(out, lent, n)
@@ -76,12 +67,14 @@ pub fn outcome<W: Write>(out: &mut W, o: Outcome, l: Layout, lent: &[f64]) -> io
 
 // The selector and the part of the store that is lent.
 pub fn shown<W: Write>(out: &mut W, s: &Selector, store: &[f64]) -> io::Result<()> {
-    let count = s.count;
-    let oldest = s.oldest;
-    write!(out, "keys {count} {oldest}")?;
-    if count <= 8 && oldest <= 7 {
-        for i in 0..count {
-            let epoch = s.keys[(oldest + i) % 8 * 156 + 154];
+    let ring = Ring {
+        count: s.count,
+        oldest: s.oldest,
+    };
+    write!(out, "keys {} {}", ring.count, ring.oldest)?;
+    if ring.count <= 8 && ring.oldest <= 7 {
+        for i in 0..ring.count {
+            let epoch = s.keys[ring.place(i) * 156 + EPOCH];
             write!(out, " {epoch}")?;
         }
     }

@@ -1,16 +1,17 @@
 // What a script sets, and the call for gains.
-ghost use Rattle.std.specs.Prelude.{◌≤◌};
+ghost use Rattle.std.specs.Prelude.{◌≤◌, length};
 
 use crate::commands::{self, Command};
 use crate::print;
 use crate::text::Tokens;
 use extent::Extent;
+use field::STORE;
 use layout::{Centre, Layout};
 use selector::Selector;
 use std::io;
 use std::io::Write;
 
-// Point gains, at most 32.
+// Point gains, at most 32. An array with its count: memory is fixed, and a command is copied.
 #[derive(Clone, Copy)]
 pub struct Points {
     values: [f64; 32],
@@ -28,14 +29,9 @@ impl Points {
 
     // One more; nothing where there are 32.
     pub fn push(&mut self, x: f64) -> Option<()> {
-        let at = self.count;
-        if at < 32 {
-            self.values[at] = x;
-            self.count = at + 1;
-            Some(())
-        } else {
-            None
-        }
+        *self.values.get_mut(self.count)? = x;
+        self.count += 1;
+        Some(())
     }
 
     pub fn as_slice(&self) -> &[f64] {
@@ -56,9 +52,12 @@ impl From<io::Error> for Failure {
     }
 }
 
-// What later calls bring. `rowed`: the last layer has a row.
-#[derive(Clone, Copy)]
-pub struct Scene {
+// What later calls bring, and the store that they are lent. `rowed`: a row was given to the last layer.
+// A layout does not say it of a fifth layer and those after it, which it only counts. `size`: how much of
+// the store a script lends, no length of it.
+#[derive(Drop)]
+pub struct Scene<'a> {
+    store: &'a mut [f64],
     layout: Layout,
     rowed: bool,
     epoch: u64,
@@ -71,17 +70,14 @@ pub struct Scene {
     selector: Selector,
 }
 
-impl Scene {
-    pub fn new() -> Scene {
+impl<'a> Scene<'a> {
+    pub fn new(store: &'a mut [f64]) -> Scene<'a> {
         Scene {
+            store,
             layout: Layout::new(),
             rowed: false,
             epoch: 0,
-            extent: Extent {
-                x: 0.0,
-                y: 0.0,
-                z: 0.0,
-            },
+            extent: Extent::default(),
             flags: [true; 6],
             centre: Centre {
                 x: 0.5,
@@ -90,18 +86,25 @@ impl Scene {
             },
             points: Points::new(),
             slots: 24,
-            size: 285312,
+            size: STORE,
             selector: Selector::new(),
         }
     }
 
+    // How much of the store is lent.
+    fn lent_size(&self) -> usize
+        ensures { result ≤ length self.now.store.now }
+    {
+        self.size.min(self.store.len())
+    }
+
     // The call for gains.
-    fn gains<W: Write>(&mut self, out: &mut W, store: &mut [f64]) -> io::Result<()> {
+    fn gains<W: Write>(&mut self, out: &mut W) -> io::Result<()> {
         let mut space = [7.0f64; 32];
         let lent = self.slots.min(32);
-        let size = self.size.min(store.len());
+        let size = self.lent_size();
         let reply = self.selector.project_outcome_with_epoch(
-            &mut store[..size],
+            &mut self.store[..size],
             self.layout,
             self.epoch,
             self.extent,
@@ -114,12 +117,13 @@ impl Scene {
         print::outcome(out, reply.outcome, self.layout, &space[..lent])
     }
 
-    fn set<W: Write>(
-        &mut self,
-        out: &mut W,
-        store: &mut [f64],
-        command: Command,
-    ) -> Result<(), Failure> {
+    // The selector and the part of the store that is lent.
+    fn show<W: Write>(&self, out: &mut W) -> io::Result<()> {
+        let size = self.lent_size();
+        print::shown(out, &self.selector, &self.store[..size])
+    }
+
+    fn set<W: Write>(&mut self, out: &mut W, command: Command) -> Result<(), Failure> {
         let layout = self.layout;
         match command {
             Command::Layout => {
@@ -151,34 +155,26 @@ impl Scene {
             Command::Points(points) => self.points = points,
             Command::Slots(n) => self.slots = n,
             Command::Store(n) => self.size = n,
-            Command::Fill(x) => store.fill(x),
+            Command::Fill(x) => self.store.fill(x),
             Command::Fresh => self.selector = Selector::new(),
-            Command::State { count, oldest } => {
-                self.selector.count = count;
-                self.selector.oldest = oldest;
+            Command::State(ring) => {
+                self.selector.count = ring.count;
+                self.selector.oldest = ring.oldest;
             }
-            Command::Gains => self.gains(out, store)?,
-            Command::Show => {
-                let size = self.size.min(store.len());
-                print::shown(out, &self.selector, &store[..size])?;
-            }
+            Command::Gains => self.gains(out)?,
+            Command::Show => self.show(out)?,
         }
         Ok(())
     }
 
     // One line of a script, without its line feed.
-    pub fn obey<W: Write>(
-        &mut self,
-        out: &mut W,
-        store: &mut [f64],
-        line: &[u8],
-    ) -> Result<(), Failure> {
+    pub fn obey<W: Write>(&mut self, out: &mut W, line: &[u8]) -> Result<(), Failure> {
         let mut tokens = Tokens::new(line);
         match tokens.next() {
             None | Some([b'#', ..]) => Ok(()),
             Some(first) => {
                 let command = commands::read(first, tokens).ok_or(Failure::Bad)?;
-                self.set(out, store, command)
+                self.set(out, command)
             }
         }
     }

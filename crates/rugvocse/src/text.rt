@@ -31,7 +31,7 @@ impl<'a> Tokens<'a> {
     // Passes over the next token where it is this word.
     pub fn skip_word(&mut self, w: &[u8]) -> bool {
         let mut after = *self;
-        let is_next = after.next().is_some_and(|token| word(token) == w);
+        let is_next = after.next().is_some_and(|token| word(token) == Some(w));
         if is_next {
             *self = after;
         }
@@ -40,19 +40,13 @@ impl<'a> Tokens<'a> {
 
     // Nothing, where a token is left.
     pub fn end(mut self) -> Option<()> {
-        match self.next() {
-            None => Some(()),
-            Some(_) => None,
-        }
+        self.next().is_none().then_some(())
     }
 }
 
 // The word that a token of at most eight bytes is: zeros at its end do not count. A longer token is
 // no word.
-pub fn word(token: &[u8]) -> &[u8] {
-    if 8 < token.len() {
-        return &token[..0];
-    }
+pub fn word(token: &[u8]) -> Option<&[u8]> {
     let to = token.iter().rposition(|c| *c != 0).map_or(0, |i| i + 1);
-    &token[..to]
+    (token.len() <= 8).then_some(&token[..to])
 }

@@ -10,88 +10,95 @@
 #![tactic(auto)]
 
 use extent::Extent;
+use field::STORE;
 use layout::Centre;
 use record_io::Records;
-use replay::Room;
+use replay::{Command, Room, moved};
 use selector::Ring;
 use std::io;
 use std::io::{BufReader, BufWriter, Write};
 
-// Three digits, a space, 16 digits and a line feed.
-const LINE: usize = 21;
+const EXTENT: Extent = Extent {
+    x: 0.45,
+    y: 0.45,
+    z: 0.45,
+};
 
-// The centre, a little to the right every other turn.
-fn centre(turn: u64) -> Centre {
-    Centre {
-        x: if turn % 2 == 0 { 0.2 } else { 0.2078125 },
-        y: 0.5,
-        z: 0.4,
-    }
+const CENTRE: Centre = Centre {
+    x: 0.2,
+    y: 0.5,
+    z: 0.4,
+};
+
+// What the lines so far have set, and the store that a selector is lent.
+#[derive(Drop)]
+pub struct Setting<'a> {
+    pub store: &'a mut [f64],
+    pub room: Room,
+    pub flags: [bool; 6],
 }
 
-// So many calls, each of the epoch of its turn; how many keys are held then. There are as many point
-// gains as active channels.
-fn turns<F: Fn(u64) -> u64>(
-    store: &mut [f64],
-    room: &Room,
-    flags: [bool; 6],
-    count: u64,
-    epoch_of: F,
-) -> usize
-    requires { F.IsAlwaysCallable epoch_of }
-{
-    let l = room.layout;
-    let e = Extent {
-        x: 0.45,
-        y: 0.45,
-        z: 0.45,
-    };
-    let points = [0.3f64; 24];
-    let n = channels::active_count(l).min(24);
-    let mut words = [0u64; 1248];
-    let mut gains = [0.0f64; 24];
-    let mut ring = Ring {
-        count: 0,
-        oldest: 0,
-    };
-    for turn in (1..=count).rev() {
-        let reply = selector::project_outcome_with_epoch(
-            &mut words,
-            ring,
-            store,
-            l,
-            epoch_of(turn),
-            e,
-            flags,
-            centre(turn),
-            &points[..n],
-            &mut gains,
-        );
-        ring = reply.ring;
+impl Setting<'_> {
+    // So many calls, each of the epoch of its turn; how many keys are held then. There are as many
+    // point gains as active channels.
+    fn turns<F: Fn(u64) -> u64>(&mut self, count: u64, epoch_of: F) -> usize
+        requires { F.IsAlwaysCallable epoch_of }
+    {
+        let l = self.room.layout;
+        let flags = self.flags;
+        let points = [0.3f64; 24];
+        let n = channels::active_count(l);
+        let mut words = [0u64; 1248];
+        let mut gains = [0.0f64; 24];
+        let mut ring = Ring {
+            count: 0,
+            oldest: 0,
+        };
+        for turn in (1..=count).rev() {
+            let reply = selector::project_outcome_with_epoch(
+                &mut words,
+                ring,
+                self.store,
+                l,
+                epoch_of(turn),
+                EXTENT,
+                flags,
+                moved(CENTRE, turn),
+                &points[..n],
+                &mut gains,
+            );
+            ring = reply.ring;
+        }
+        ring.count
     }
-    ring.count
-}
 
-fn main(rt: HostRuntime) -> io::Result<()> {
-    let input = BufReader::new(rt.alloc(), rt.stdin())?;
-    let mut out = BufWriter::new(rt.alloc(), io::writer(&rt))?;
-    let mut store = [0.0f64; 285312];
-    let mut room = Room::new();
-    let mut flags = [true; 6];
-    for line in Records::<_, LINE>::new(input) {
-        let line = line?;
-        let v = replay::hex(&line, 4);
-        match replay::three(&line) {
-            k if k < 910 => room.obey(k, v),
-            950 => flags = std::array::from_fn(|i| v & (1 << i) != 0),
-            k => {
-                let is_built = k == 952;
-                let held = turns(&mut store, &room, flags, v, |turn| {
-                    if is_built { turn } else { 7 }
-                });
+    // One command. Numbers with no meaning of their own act up to 909 as 905, above as 951. One closure that
+    // asks which: with one for each the calls are compiled twice, and each takes 250 instructions more.
+    fn step<W: Write>(&mut self, out: &mut W, command: Command) -> io::Result<()> {
+        let Command { code, value } = command;
+        match code {
+            0..=909 => self.room.obey(command),
+            950 => self.flags = std::array::from_fn(|i| value & (1 << i) != 0),
+            _ => {
+                let is_built = code == 952;
+                let held = self.turns(value, |turn| if is_built { turn } else { 7 });
                 writeln!(out, "{held}")?;
             }
         }
+        Ok(())
     }
+}
+
+// As in the other programs: one main for all would take each one's state and its step.
+fn main(rt: HostRuntime) -> io::Result<()> {
+    let input = BufReader::new(rt.alloc(), rt.stdin())?;
+    let mut out = BufWriter::new(rt.alloc(), io::writer(&rt))?;
+    let mut store = [0.0f64; STORE];
+    let mut setting = Setting {
+        store: &mut store,
+        room: Room::new(),
+        flags: [true; 6],
+    };
+    Records::new(input).try_for_each(|line| setting.step(&mut out, Command::from(line?)))?;
     out.flush()
 }
