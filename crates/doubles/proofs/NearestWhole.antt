@@ -1,6 +1,6 @@
 -- A sum with 1.5 * 2 ^ 52 is rounded to the nearest whole number, a half going to the even one; and what the proof of `floor_near` cites: the floor is that number or one less. Assumes nothing.
 use Rattle.doubles.proofs.Order.{at_least}
-use Rattle.std.proofs.Common.{◌≡◌, ℕ, zero, suc, ◌+◌, ◌-◌, ◌*◌, ◌/◌, ◌^◌, ◌<◌, ◌≤◌, Bool, true, false, not, ◌&&◌, ◌||◌, T, eqb, ltb, ℤ, pos, negsuc, neg_ℤ, nat_abs, sym, refl, ap, ◌∙◌, subst, inr, zero-le, le_trans, le_of_eq, lt_of_lt_of_le, le_of_suc-le-suc, lt_of_le_of_lt, add-zero, mul-le-mul_right, zero-lt-suc, mul_assoc, mul_comm, div-lt_iff_lt-mul, add-mul, lt_of_mul-lt-mul_right, mul-lt-mul_of_pos_right, mul-pos, le-div_iff_mul-le, zero-mul, mul-one, mul_right_comm, div-mul-le_self, add-one, arith, lit<, ltb→lt, lt→ltb, nltb→le, T_not, pow_pos, pow-add}
+use Rattle.std.proofs.Common.{◌≡◌, ℕ, zero, suc, ◌+◌, ◌-◌, ◌*◌, ◌/◌, ◌^◌, ◌<◌, ◌≤◌, Bool, true, false, not, ◌&&◌, T, eqb, ltb, ℤ, pos, negsuc, neg_ℤ, nat_abs, sym, refl, ap, ◌∙◌, subst, inr, zero-le, le_trans, le_of_eq, lt_of_lt_of_le, le_of_suc-le-suc, lt_of_le_of_lt, add-zero, mul-le-mul_right, zero-lt-suc, mul_assoc, mul_comm, div-lt_iff_lt-mul, add-mul, lt_of_mul-lt-mul_right, mul-lt-mul_of_pos_right, mul-pos, le-div_iff_mul-le, zero-mul, mul-one, mul_right_comm, div-mul-le_self, add-one, arith, lit<, ltb→lt, lt→ltb, nltb→le, T_not, pow_pos, pow-add}
 use native.Mathlib.Nat.{div-eq_of_lt-le, mul-add-div_right, lt-div-mul-add, div-le_of_le-mul}
 use lib.IntN.{suc_ℤ}
 use lib.Pow.{pow-lt}

@@ -2,11 +2,13 @@
 use Rattle.std.proofs.Common.{◌≡◌, ℕ, zero, suc, ◌+◌, ◌*◌, ◌/◌, ◌%◌, ◌^◌, ◌<◌, Bool, true, false, cond, not, T, eqb, leb, ◌⊎◌, sym, refl, ap, ◌∙◌, subst, inl, inr, mod-eq_of_lt, mul-one, arith, T_not}
 use Rattle.std.proofs.lemmas.Float.{T_from_false}
 use lib.Dec.{nleb→lt}
-use lib.Ieee.{Float, nan, inf, fin, binary64, odd, fits, of_fields, to_bits}
+use lib.Ieee.{Float, nan, inf, fin, binary64, odd, fits, lt, of_fields, to_bits}
 use lib.Ieee.Fits.{eq→eqb}
 use lib.Ieee.Bits.{of_bits-to_bits, cond_no}
 use lib.Ieee.Exact.{HasValue, odd_sign}
 use Rattle.doubles.proofs.Magnitude.{mag, mag_of, plain}
+use lib.Ieee.Scale.{finite}
+use Rattle.doubles.proofs.Floors.{zero_f}
 use Rattle.doubles.proofs.PowersOfTwo.{of_bits_is}
 
 -- ---- the fields of a pattern whose value is finite and has no sign
@@ -68,3 +70,24 @@ shape x h p =
     let b = to_bits binary64 x in
     let i : of_fields binary64 (leb (2 ^ 63) b) (b % 2 ^ 63 / 2 ^ 52) (b % 2 ^ 52) ≡ x = sym (of_bits_is b) ∙ of_bits-to_bits binary64 x h in
     shape_read b x (subst (λ (y : Float). Read (leb (2 ^ 63) b) (b % 2 ^ 63 / 2 ^ 52) (b % 2 ^ 52) y) i (read (leb (2 ^ 63) b) (b % 2 ^ 63 / 2 ^ 52) (b % 2 ^ 52) (subst (λ (y : Float). T (plain y)) (sym i) p)))
+
+-- ---- what is above zero, below infinity or finite
+pub is_plain : (x : Float) → T (lt zero_f x) → T (finite x) → T (plain x)
+unfolding lt
+is_plain nan p q = absurd p
+is_plain (inf s) p q = absurd q
+is_plain (fin true m e) p q = absurd p
+is_plain (fin false m e) p q = tt
+
+pub under_inf : (x : Float) → T (lt zero_f x) → T (lt x (inf false)) → T (finite x)
+unfolding lt
+under_inf nan p q = absurd p
+under_inf (inf true) p q = absurd p
+under_inf (inf false) p q = absurd q
+under_inf (fin s m e) p q = tt
+
+pub not_under_inf : (x : Float) → T (finite x) → T (not (lt x (inf false))) → ⊥
+unfolding lt
+not_under_inf nan t q = absurd t
+not_under_inf (inf s) t q = absurd t
+not_under_inf (fin s m e) t q = absurd q

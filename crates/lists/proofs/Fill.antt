@@ -1,10 +1,10 @@
 -- A loop that writes an array of n entries from the front, so that it becomes the list l.
 use Prim.Native.Nat.{ℕ, ◌+◌, ◌<◌, ◌≤◌}
 use mathlib.Core.Path.{◌≡◌, refl, sym, ◌∙◌}
-use mathlib.Core.List.{List}
+use mathlib.Core.List.{List, map}
 use native.Mathlib.Numerals.{add-one}
 use native.Mathlib.Omega.{arith}
-use lib.ListN.{length, take, set, get_or, length-set}
+use lib.ListN.{length, take, set, get_or, length-set, get_or-map}
 use lib.Seq.{take-suc, take-suc-set, take_all}
 
 -- the first i entries are written
@@ -31,3 +31,7 @@ module _ {A : Type 0} (n : ℕ) (l out : List A) where
   -- at the end all are written
   pub fill_done : (i : ℕ) → Filled n l out i → n ≤ i → out ≡ l
   fill_done i w h = sym (take_all i out (omega arith)) ∙ w.same ∙ take_all i l (omega arith)
+
+-- one more, where a function makes l from a list that the loop reads
+pub fill_map : {A B : Type 0} (f : A → B) (n : ℕ) (xs : List A) (out : List B) (i : ℕ) (d : A) → Filled n (map f xs) out i → i < n → Filled n (map f xs) (set out i (f (get_or xs i d))) (i + 1)
+fill_map f n xs out i d w h = fill_more n (map f xs) out i (f d) (f (get_or xs i d)) w h (sym (get_or-map f xs i d))

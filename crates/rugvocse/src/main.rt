@@ -1,6 +1,8 @@
 // Scene scripts in, gains out.
 #![tactic(auto)]
 
+ghost use Rattle.std.specs.Prelude.{◌≤◌};
+
 mod commands;
 mod numbers;
 mod print;
@@ -8,59 +10,113 @@ mod scene;
 mod text;
 
 use field::STORE;
+use record_io::read_full;
 use scene::{Failure, Scene};
-use std::alloc::Global;
 use std::io;
-use std::io::{BufRead, BufReader, BufWriter, Read, Write};
+use std::io::{BufWriter, Read, Write};
 
-// The most bytes that a line has.
+// The most bytes that a line has, and how many of a longer one are held.
 const LONGEST: usize = 4000;
 
-// The next line without its line feed, or of a line that is too long its first bytes; nothing at the
-// end of the input. Not by an iterator: it would make a vector anew for each line, or lend its own.
-fn read_line<'a, R: BufRead>(input: &mut R, line: &'a mut Vec<u8>) -> io::Result<Option<&'a [u8]>> {
-    line.clear();
-    if input.take(LONGEST as u64 + 1).read_until(b'\n', line)? == 0 {
-        return Ok(None);
-    }
-    if line.last() == Some(&b'\n') {
-        line.pop();
-    } else if LONGEST < line.len() {
-        input.skip_until(b'\n')?;
-    }
-    Ok(Some(line))
+const HELD: usize = 4001;
+
+// How many bytes are read at a time, and the most times that is done.
+const PIECE: usize = 65536;
+
+const MOST: u64 = 1_000_000;
+
+// The line that is read: its bytes so far, and which it is. Of one that is too long the first bytes are
+// held. An array with its length: memory is fixed, so that no line ends the program for want of it.
+#[derive(Drop)]
+struct Line {
+    bytes: [u8; HELD],
+    length: usize,
+    number: u64,
+    ghost held: { length ≤ 4001 },
 }
 
-// Plays a script, each line where it ends.
-fn run<R: BufRead, W: Write>(
-    alloc: Global,
-    input: &mut R,
-    out: &mut W,
-    store: &mut [f64],
-) -> io::Result<()> {
-    let mut scene = Scene::new(store);
-    let mut space = Vec::new(alloc);
-    for number in 1..u64::MAX {
-        let Some(line) = read_line(input, &mut space)? else {
-            break;
-        };
-        let obeyed = if line.len() <= LONGEST {
-            scene.obey(out, line)
+impl Line {
+    // The first line, of which nothing is read yet.
+    fn first() -> Line {
+        Line {
+            bytes: [0; HELD],
+            length: 0,
+            number: 1,
+        }
+    }
+
+    // More bytes of the line.
+    fn add(&mut self, more: &[u8]) {
+        let end = self.length;
+        let n = more.len().min(HELD - end);
+        self.bytes[end..end + n].copy_from_slice(&more[..n]);
+        self.length = end + n;
+    }
+
+    // The line has ended: it is obeyed, and the next one begins.
+    fn obey<W: Write>(&mut self, out: &mut W, scene: &mut Scene<'_>) -> io::Result<()> {
+        let obeyed = if self.length <= LONGEST {
+            scene.obey(out, &self.bytes[..self.length])
         } else {
             Err(Failure::Bad)
         };
+        let number = self.number;
         match obeyed {
             Ok(()) => {}
             Err(Failure::Bad) => writeln!(out, "line {number}: bad")?,
             Err(Failure::Io(e)) => return Err(e),
         }
+        self.length = 0;
+        self.number = number.wrapping_add(1);
+        Ok(())
+    }
+}
+
+// A piece of the script: each line is obeyed where it ends, and what is left begins the next one.
+fn obey_all<W: Write>(
+    out: &mut W,
+    scene: &mut Scene<'_>,
+    line: &mut Line,
+    piece: &[u8],
+) -> io::Result<()> {
+    for part in piece.split_inclusive(|b| *b == b'\n') {
+        match part {
+            [rest @ .., b'\n'] => {
+                line.add(rest);
+                line.obey(out, scene)?;
+            }
+            _ => line.add(part),
+        }
+    }
+    Ok(())
+}
+
+// Plays a script, read piece by piece into a lent array.
+fn run<R: Read, W: Write>(
+    input: &mut R,
+    out: &mut W,
+    store: &mut [f64],
+    piece: &mut [u8],
+) -> io::Result<()> {
+    let mut scene = Scene::new(store);
+    let mut line = Line::first();
+    for _ in 0..MOST {
+        let got = read_full(input, piece)?;
+        if got == 0 {
+            if line.length != 0 {
+                line.obey(out, &mut scene)?;
+            }
+            break;
+        }
+        obey_all(out, &mut scene, &mut line, &piece[..got])?;
     }
     out.flush()
 }
 
 fn main(rt: HostRuntime) -> io::Result<()> {
-    let mut input = BufReader::with_capacity(rt.alloc(), 65536, rt.stdin())?;
+    let mut input = rt.stdin();
     let mut out = BufWriter::new(rt.alloc(), io::writer(&rt))?;
     let mut store = [0.0f64; STORE];
-    run(rt.alloc(), &mut input, &mut out, &mut store)
+    let mut piece = [0u8; PIECE];
+    run(&mut input, &mut out, &mut store, &mut piece)
 }

@@ -9,11 +9,11 @@ use lib.Ieee.Nearest.{closest}
 use lib.Ieee.Scale.{finite}
 use Rattle.doubles.specs.Arithmetic.{zero64}
 use Rattle.doubles.specs.Root.{isqrt, sqrt_of, round_root, square_units, NearRoot}
-use Rattle.doubles.proofs.Magnitude.{mag, mag_val, low_enough, small_enough, unit_pow}
+use Rattle.doubles.proofs.Magnitude.{mag, mag_val, plain, low_enough, small_enough, unit_pow}
 use Rattle.doubles.proofs.Rounding.{closest_near}
 use Rattle.doubles.proofs.Floors.{zero_is}
 use Rattle.doubles.proofs.Roots.{handed, root_fraction, root_under, root_from, root_over, root_near, sq_le_back, root_below_same}
-use Rattle.doubles.proofs.Bound.{four}
+use Rattle.doubles.proofs.Bound.{four, zero_mag}
 
 -- ---- the root of an m of at most 53 digits, times a power of two, is never halfway: the square of a number halfway has more digits
 twice_pow : (m i : ℕ) → m * 2 ^ suc i ≡ 2 * (m * 2 ^ i)
@@ -168,6 +168,15 @@ near_at num den X r D e n =
     (lt_of_le_of_lt (le_of_eq W) (mul-lt-mul_of_pos_right n.hi D))
     (lt_of_lt_of_le (mul-lt-mul_of_pos_right n.under D) (le_of_eq (sym W)))
     (lt_of_le_of_lt (le_of_eq W) (mul-lt-mul_of_pos_right n.over D)))
+
+-- what is near the root of x is `sqrt_of x`
+pub near_sqrt : (x : Float) (r : Float) → T (fits binary64 x) → T (plain x) → 1 ≤ mag binary64 x → NearRoot (square_units x) r → r ≡ sqrt_of binary64 x
+unfolding sqrt_of
+near_sqrt nan r h p o n = absurd p
+near_sqrt (inf s) r h p o n = absurd p
+near_sqrt (fin true m e) r h p o n = absurd p
+near_sqrt (fin false zero e) r h p o n = absurd (lt_irrefl 0 (lt_of_lt_of_le o (le_of_eq (zero_mag (2 ^ 1074) (down e) (up e)))))
+near_sqrt (fin false (suc m) e) r h p o n = near_at (suc m * up e) (down e) (mag binary64 (fin false (suc m) e)) r (down_pos e) (mag_val binary64 (fin false (suc m) e) h tt).1 n
 
 -- ---- std's root of a / down e, which is X units: that of X * 2 ^ 122 / 2 ^ 1196
 same_twice : (n : ℕ) → root_twice n ≡ 2 * isqrt n + cond (eqb (isqrt n * isqrt n) n) 0 1
