@@ -1,6 +1,6 @@
 -- Tests as facts, whole numbers that cast, zeros, and that std's `floor` is `floor_of`. Assumes nothing.
-use Rattle.std.proofs.Common.{◌≡◌, ℕ, ◌+◌, ◌-◌, ◌*◌, ◌/◌, ◌^◌, ◌<◌, ◌≤◌, Bool, true, false, T, ℤ, pos, sym, refl, ap, ◌∙◌, zero-lt-suc, zero-mul, mul-one, arith, le→leb, eqb, eqb→eq, not, true≢false, suc, div-one, le_trans, nltb→le, ltb→lt, lt_irrefl, lt_of_lt_of_le, lt_of_le_of_lt, le-mul_of_pos_right, pow_pos, le_of_eq, add-zero, one-mul, negsuc, zero-le}
-use lib.Ieee.{Float, nan, inf, fin, binary64, up, down, round, fits, in_float, eq, ne, lt, neg}
+use Rattle.std.proofs.Common.{◌≡◌, ℕ, ◌+◌, ◌-◌, ◌*◌, ◌/◌, ◌^◌, ◌<◌, ◌≤◌, Bool, true, false, T, ℤ, pos, sym, refl, ap, ◌∙◌, zero-lt-suc, zero-mul, mul-one, arith, le→leb, eqb, eqb→eq, not, suc, div-one, le_trans, nltb→le, ltb→lt, lt_irrefl, lt_of_lt_of_le, lt_of_le_of_lt, le-mul_of_pos_right, pow_pos, le_of_eq, add-zero, one-mul, negsuc, zero-le}
+use lib.Ieee.{Float, nan, inf, fin, binary64, up, down, round, fits, in_float, eq, lt, neg}
 use lib.Ieee.Fits.{down_pos, and_l, and_r}
 use Rattle.std.specs.Float as float
 use Rattle.doubles.specs.Arithmetic as arithmetic
@@ -70,15 +70,10 @@ zero_stays true = refl
 zero_whole : (s : Bool) (m : ℕ) (e : ℤ) → T (fits binary64 (fin s m e)) → m * up e ≡ 0 → fin s m e ≡ floor_of binary64 (fin s m e)
 zero_whole s m e h z = let i = zero_is s m e h z in i ∙ zero_stays s ∙ ap (floor_of binary64) (sym i)
 
-pub floor_zero : (x : Float) → T (fits binary64 x) → ne x zero_f ≡ false → x ≡ floor_of binary64 x
-unfolding ne
+pub floor_zero : (x : Float) → T (fits binary64 x) → T (eq x zero_f) → x ≡ floor_of binary64 x
 floor_zero nan h z = unfold floor_of in refl
 floor_zero (inf s) h z = unfold floor_of in refl
-floor_zero (fin s m e) h z = zero_whole s m e h (nought s m e (equal (eq (fin s m e) zero_f) z))
-  where
-    equal : (b : Bool) → not b ≡ false → T b
-    equal true p = tt
-    equal false p = absurd (true≢false p)
+floor_zero (fin s m e) h z = zero_whole s m e h (nought s m e z)
 
 -- what is neither above zero nor below it
 pub neither : (x : Float) → T (fits binary64 x) → T (not (lt zero_f x)) → T (not (lt x zero_f)) → x ≡ floor_of binary64 x

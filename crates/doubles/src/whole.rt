@@ -24,8 +24,10 @@ pub fn floor_near(x: f64) -> f64
 pub fn floor(x: f64) -> f64
     ensures { result ≡ floor_of binary64 x }
 {
-    if (x > -2251799813685248.0) & (x < 2251799813685248.0) {
-        if x != 0.0 { floor_near(x) } else { x }
+    if x == 0.0 {
+        x
+    } else if (x > -2251799813685248.0) & (x < 2251799813685248.0) {
+        floor_near(x)
     } else {
         x.floor()
     }
