@@ -15,14 +15,16 @@ use scene::{Failure, Scene};
 use std::io;
 use std::io::{BufWriter, Read, Write};
 
-// The most bytes that a line has, and how many of a longer one are held.
+// The most bytes that a line has.
 const LONGEST: usize = 4000;
 
-const HELD: usize = 4001;
+// How many bytes of a line are held: one more tells that it is too long.
+const HELD: usize = LONGEST + 1;
 
-// How many bytes are read at a time, and the most times that is done.
+// How many bytes are read at a time.
 const PIECE: usize = 65536;
 
+// The most pieces that are read.
 const MOST: u64 = 1_000_000;
 
 // The line that is read: its bytes so far, and which it is. Of one that is too long the first bytes are
